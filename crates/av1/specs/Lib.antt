@@ -1,0 +1,5 @@
+pub mod Refusals
+pub mod Segments
+pub mod Sides
+pub mod Sizes
+pub mod Tiles

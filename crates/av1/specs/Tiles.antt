@@ -1,0 +1,60 @@
+-- A tile of columns × rows units: its cells, row by row, the neighbours of a unit, and the cells of a block.
+use mathlib.Core.Bool.{Bool, false, cond, _&&_}
+use mathlib.Core.List.{List}
+use Prim.Native.Nat.{ℕ, _+_, _-_, _*_, _%_, _<_, _≤_, min}
+use lib.Dec.{ltb, leb, eqb}
+use lib.ListN.{getD, length}
+use Rattle.std.specs.declared.option.Option.{Option}
+use Rattle.std.specs.declared.option.Option.the-variants.{Some, None}
+use Rattle.std.specs.declared.result.Result.{Result}
+use Rattle.std.specs.declared.result.Result.the-variants.{Ok, Err}
+use Rattle.av1.specs.declared.refusal.Refusal.{Refusal}
+use Rattle.av1.specs.declared.refusal.Refusal.the-variants as no
+use Rattle.av1.specs.declared.size.BlockSize.{BlockSize}
+use Rattle.av1.specs.declared.tile.Block.{Block}
+use Rattle.av1.specs.declared.tile.Cell.{Cell}
+use Rattle.av1.specs.Sides.{side}
+use Rattle.av1.specs.Sizes.{width-mi, height-mi}
+
+-- what every cell is at the start
+abbrev pub no-cell : Cell
+no-cell = record { skip = false; segment = 0 }
+
+module _ (columns rows : ℕ) where
+  abbrev pub sides-asked : Result (Unit {0}) Refusal
+  sides-asked = cond (side columns && side rows) (Ok tt) (Err no.TileSize)
+
+  abbrev pub map-asked : ℕ → Result (Unit {0}) Refusal
+  map-asked memory = cond (leb (columns * rows) memory) (Ok tt) (Err no.MapMemory)
+
+  -- the cell of a unit; one outside the tile, or outside the memory, is absent
+  abbrev pub cell-of : List Cell → ℕ → ℕ → Option Cell
+  cell-of cells x y =
+      cond (ltb x columns && ltb y rows) (cond (ltb (y * columns + x) (length cells)) (Some (getD cells (y * columns + x) no-cell)) None) None
+
+  abbrev pub above-of : List Cell → ℕ → ℕ → Option Cell
+  above-of cells x y = cond (ltb 0 y) (cell-of cells x (y - 1)) None
+
+  abbrev pub left-of : List Cell → ℕ → ℕ → Option Cell
+  left-of cells x y = cond (ltb 0 x) (cell-of cells (x - 1) y) None
+
+  abbrev pub above-left-of : List Cell → ℕ → ℕ → Option Cell
+  above-left-of cells x y = cond (ltb 0 x && ltb 0 y) (cell-of cells (x - 1) (y - 1)) None
+
+  -- a position in the tile, at multiples of the block's sides
+  abbrev pub in-tile : ℕ → ℕ → BlockSize → Bool
+  in-tile x y z = ltb x columns && (ltb y rows && (eqb (x % width-mi z) 0 && eqb (y % height-mi z) 0))
+
+  -- the block's cells that lie in the tile
+  abbrev pub block-at : ℕ → ℕ → BlockSize → Block
+  block-at x y z = record { from = y * columns + x; width = min (width-mi z) (columns - x); height = min (height-mi z) (rows - y) }
+
+  abbrev pub placed : ℕ → ℕ → BlockSize → Result Block Refusal
+  placed x y z = cond (in-tile x y z) (Ok (block-at x y z)) (Err no.Position)
+
+  -- every row of the block lies among the tile's cells
+  pub record Inside (b : Block) : Type 0 where
+    pub some : 0 < b .width
+    pub wide : b .width ≤ 32
+    pub high : b .height ≤ 32
+    pub row : (k : ℕ) → k < b .height → b .from + k * columns + b .width ≤ columns * rows

@@ -1,0 +1,68 @@
+ghost use mathlib.Core.Path.{_≡_};
+ghost use Prim.Native.Nat.{_*_};
+ghost use Rattle.std.specs.Vec.{made};
+ghost use Rattle.av1.specs.Refusals.{verdict};
+ghost use Rattle.av1.specs.Tiles.{sides-asked, map-asked, placed, Inside};
+use crate::refusal::Refusal;
+use crate::size::BlockSize;
+use crate::tile::Block;
+use crate::tile::Tile;
+
+impl Tile {
+    /// A tile of `cols` × `rows` units.
+    pub fn new(cols: usize, rows: usize) -> Result<Tile, Refusal>
+        ensures asked { λ r. ⌜ verdict r ≡ sides-asked cols rows ⌝ }
+        ensures made { λ r. ⌜ made r (λ t. (t .cols ≡ cols) × (t .rows ≡ rows)) ⌝ }
+    {
+        if cols % 2 != 0 || cols < 2 || cols > 1024 || rows % 2 != 0 || rows < 2 || rows > 1024 {
+            return Err(Refusal::TileSize);
+        }
+        Ok(Tile { cols, rows })
+    }
+
+    pub fn cols(&self) -> usize
+        ensures { λ r. ⌜ r ≡ now (self .entry) .cols ⌝ }
+    {
+        self.cols
+    }
+
+    pub fn rows(&self) -> usize
+        ensures { λ r. ⌜ r ≡ now (self .entry) .rows ⌝ }
+    {
+        self.rows
+    }
+
+    /// How many units the tile has, and so how many cells its map.
+    pub fn units(&self) -> usize
+        ensures { λ r. ⌜ r ≡ now (self .entry) .cols * now (self .entry) .rows ⌝ }
+    {
+        self.cols * self.rows
+    }
+
+    /// Whether the map's memory, of `memory` cells, is enough.
+    pub fn ask_map(&self, memory: usize) -> Result<(), Refusal>
+        ensures { λ r. ⌜ r ≡ map-asked (now (self .entry) .cols) (now (self .entry) .rows) memory ⌝ }
+    {
+        if memory < self.units() {
+            return Err(Refusal::MapMemory);
+        }
+        Ok(())
+    }
+
+    /// The cells of a block at a position, which has to lie in the tile, at multiples of the block's sides.
+    pub fn place(&self, x: usize, y: usize, bsize: BlockSize) -> Result<Block, Refusal>
+        ensures answer { λ r. ⌜ r ≡ placed (now (self .entry) .cols) (now (self .entry) .rows) x y bsize ⌝ }
+        ensures inside { λ r. ⌜ made r (λ b. Inside (now (self .entry) .cols) (now (self .entry) .rows) b) ⌝ }
+    {
+        let width = bsize.width_mi();
+        let height = bsize.height_mi();
+        if x >= self.cols || y >= self.rows || x % width != 0 || y % height != 0 {
+            return Err(Refusal::Position);
+        }
+        Ok(Block {
+            from: y * self.cols + x,
+            width: width.min(self.cols - x),
+            height: height.min(self.rows - y),
+        })
+    }
+}

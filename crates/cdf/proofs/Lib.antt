@@ -1,0 +1,7 @@
+pub mod Adapting
+pub mod Booleans
+pub mod Layouts
+pub mod Ranges
+pub mod Regions
+pub mod Stores
+pub mod Symbols

@@ -1,0 +1,12 @@
+pub mod AlphaSigns
+pub mod Blocks
+pub mod Examples
+pub mod Facts
+pub mod Reading
+pub mod Staged
+pub mod Standing
+pub mod Stepping
+pub mod Trails
+pub mod TreeTables
+pub mod Trees
+pub mod Vectors

@@ -1,0 +1,10 @@
+pub mod Alphas
+pub mod Calls
+pub mod Coders
+pub mod Decisions
+pub mod Facts
+pub mod Runs
+pub mod Subject
+pub mod Tree
+pub mod Vector
+pub mod Worked
