@@ -4,6 +4,7 @@ use mathlib.Core.List.{List}
 use Prim.Native.Nat.{ℕ, _+_, _-_, _*_, _%_, _<_, _≤_, min}
 use lib.Dec.{ltb, leb, eqb}
 use lib.ListN.{getD, length}
+use mir.Val.{boolByte}
 use Rattle.std.specs.declared.option.Option.{Option}
 use Rattle.std.specs.declared.option.Option.the-variants.{Some, None}
 use Rattle.std.specs.declared.result.Result.{Result}
@@ -14,11 +15,16 @@ use Rattle.av1.specs.declared.size.BlockSize.{BlockSize}
 use Rattle.av1.specs.declared.tile.Block.{Block}
 use Rattle.av1.specs.declared.tile.Cell.{Cell}
 use Rattle.av1.specs.Sides.{side}
-use Rattle.av1.specs.Sizes.{width-mi, height-mi}
+use Rattle.av1.specs.Sizes.{width-mi, height-mi, no-side-above}
 
 -- what every cell is at the start
 abbrev pub no-cell : Cell
 no-cell = record { skip = false; segment = 0 }
+
+-- 1 for a cell that is there and skipped
+abbrev pub flag-of : Option Cell → ℕ
+flag-of None = 0
+flag-of (Some c) = boolByte (c .skip)
 
 module _ (columns rows : ℕ) where
   abbrev pub sides-asked : Result (Unit {0}) Refusal
@@ -41,6 +47,10 @@ module _ (columns rows : ℕ) where
   abbrev pub above-left-of : List Cell → ℕ → ℕ → Option Cell
   above-left-of cells x y = cond (ltb 0 x && ltb 0 y) (cell-of cells (x - 1) (y - 1)) None
 
+  -- the skip flags above and left are counted
+  abbrev pub skip-context : List Cell → ℕ → ℕ → ℕ
+  skip-context cells x y = flag-of (above-of cells x y) + flag-of (left-of cells x y)
+
   -- a position in the tile, at multiples of the block's sides
   abbrev pub in-tile : ℕ → ℕ → BlockSize → Bool
   in-tile x y z = ltb x columns && (ltb y rows && (eqb (x % width-mi z) 0 && eqb (y % height-mi z) 0))
@@ -51,6 +61,11 @@ module _ (columns rows : ℕ) where
 
   abbrev pub placed : ℕ → ℕ → BlockSize → Result Block Refusal
   placed x y z = cond (in-tile x y z) (Ok (block-at x y z)) (Err no.Position)
+
+  -- with the map's memory and the block's sides asked for first
+  abbrev pub block-asked : ℕ → ℕ → ℕ → ℕ → BlockSize → Result Block Refusal
+  block-asked memory longest x y z =
+      cond (leb (columns * rows) memory) (cond (no-side-above longest z) (placed x y z) (Err no.BlockSize)) (Err no.MapMemory)
 
   -- every row of the block lies among the tile's cells
   pub record Inside (b : Block) : Type 0 where

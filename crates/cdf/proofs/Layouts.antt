@@ -110,7 +110,7 @@ descends-back top (v ∷ x ∷ []) h = (leb→le v top (and-first (leb v top) (l
 descends-back top (v ∷ x ∷ y ∷ ys) h =
     (leb→le v top (and-first (leb v top) (descends v (x ∷ y ∷ ys)) h), descends-back v (x ∷ y ∷ ys) (and-second (leb v top) (descends v (x ∷ y ∷ ys)) h))
 
-each-descends : (w : Words) (ts : List Table) → T (all-descend w ts) → Each (λ t. Lawful-table (words-of w t)) ts
+pub each-descends : (w : Words) (ts : List Table) → T (all-descend w ts) → Each (λ t. Lawful-table (words-of w t)) ts
 each-descends w [] h = tt
 each-descends w (t ∷ ts) h =
     (descends-back 32768 (words-of w t) (and-first (descends 32768 (words-of w t)) (all-descend w ts) h), each-descends w ts (and-second (descends 32768 (words-of w t)) (all-descend w ts) h))

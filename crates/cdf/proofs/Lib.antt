@@ -1,5 +1,6 @@
 pub mod Adapting
 pub mod Booleans
+pub mod Entries
 pub mod Layouts
 pub mod Ranges
 pub mod Regions

@@ -8,6 +8,7 @@ use native.Mathlib.Omega.{arith}
 use native.Mathlib.Decide.{decLt, ℕ-discrete}
 use lib.Dec.{T, leb, ltb, eqb, leb→le}
 use lib.IntN.{ℤ, pos, negsuc}
+use mir.Val.{boolByte}
 use lib.ListN.{length, getD}
 use Rattle.std.specs.declared.option.Option.the-variants as maybe
 use Rattle.std.specs.declared.option.Option as std
@@ -20,6 +21,7 @@ use Rattle.model.specs.declared.Question.{Question}
 use Rattle.model.specs.declared.Question.the-variants as of
 use Rattle.av1.specs.declared.refusal.Refusal.the-variants as no
 use Rattle.av1.specs.Segments.{deinterleaved, same, negative, prev, segment-context}
+use Rattle.av1.specs.Tiles.{flag-of}
 use Rattle.av1.specs.Sizes.{level, splits}
 use Rattle.cdf.proofs.Ranges.{true-below}
 use Rattle.cdf.specs.Layout.{row-base, col-base, table-sizes, in-layout, large-tables, small-tables, tables}
@@ -27,7 +29,7 @@ use Rattle.cdf.specs.Words.{Table, table}
 use Rattle.model.proofs.Standing.{or-else-first, unless-true}
 use Rattle.model.specs.Alphas.{alpha-tree, alphas-tree}
 use Rattle.model.specs.Coders.{edge, whole}
-use Rattle.model.specs.Decisions.{left-place, longest, State, Tables-in, Trees-in-layout, above-left-of, above-of, bit, context, flag-of, has-columns, has-rows, left-of, partition-table, partition-tree, prediction, segment-number, segment-tree, skip-context, table-at}
+use Rattle.model.specs.Decisions.{left-place, longest, State, Tables-in, Trees-in-layout, above-left-of, above-of, bit, context, has-columns, has-rows, left-of, partition-table, partition-tree, prediction, segment-number, segment-tree, skip-context, table-at}
 use Rattle.model.specs.Tree.{Syntax, and-then, coded, done, never, one, read-by}
 use Rattle.model.specs.Vector.{bits-tree, class-base, component-if, component-tree, fraction-tree, has-col, has-row, high-tree, integer-tree, signed, vector-tree}
 
@@ -37,7 +39,7 @@ At f n = in-layout (table f n) ≡ true
 moved-in-layout : (f g n : ℕ) → f ≡ g → At f n → At g n
 moved-in-layout f g n e h = subst (λ x. At x n) e h
 
-skip-in-layout : (k : ℕ) → k < 3 → At (2 * k) 2
+pub skip-in-layout : (k : ℕ) → k < 3 → At (2 * k) 2
 unfolding in-layout table-sizes
 skip-in-layout = true-below 3 (λ k. in-layout (table (2 * k) 2)) tt
 
@@ -194,7 +196,7 @@ flag-small : (o : std.Option Cell) → flag-of o ≤ 1
 flag-small maybe.None = omega arith
 flag-small (maybe.Some c) = go (c .skip)
   where
-    go : (b : Bool) → cond b 1 0 ≤ 1
+    go : (b : Bool) → boolByte b ≤ 1
     go true = omega arith
     go false = omega arith
 

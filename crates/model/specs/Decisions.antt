@@ -7,7 +7,7 @@ use Prim.Native.Nat.{ℕ, zero, suc, _+_, _-_, _*_, _/_, _%_, _^_, _<_, _≤_, m
 use lib.Dec.{ltb, leb, eqb, T}
 use lib.IntN.{ℤ, pos, negsuc}
 use lib.ListN.{length, getD, take, drop, set}
-use lib.Seq.{sets}
+use mir.Val.{boolByte}
 use Rattle.std.specs.declared.option.Option.the-variants as maybe
 use Rattle.std.specs.declared.option.Option as std
 use Rattle.av1.specs.declared.tile.Block.{Block}
@@ -214,21 +214,15 @@ left-of s x y = tile.left-of (s .columns) (s .rows) (s .cells) x y
 abbrev pub above-left-of : State → ℕ → ℕ → std.Option Cell
 above-left-of s x y = tile.above-left-of (s .columns) (s .rows) (s .cells) x y
 
--- the skip flags above and left are counted
-abbrev pub flag-of : std.Option Cell → ℕ
-flag-of maybe.None = 0
-flag-of (maybe.Some c) = cond (c .skip) 1 0
-
 abbrev pub skip-context : State → ℕ → ℕ → ℕ
-skip-context s x y = flag-of (above-of s x y) + flag-of (left-of s x y)
+skip-context s x y = tile.skip-context (s .columns) (s .rows) (s .cells) x y
 
 abbrev pub flag-read : ℕ → Bool
 flag-read zero = false
 flag-read (suc n) = true
 
 abbrev pub flag-symbol : Bool → ℕ
-flag-symbol false = 0
-flag-symbol true = 1
+flag-symbol flag = boolByte flag
 
 abbrev pub near-segments : {A : Type 0} → (ℤ → ℤ → ℤ → A) → State → ℕ → ℕ → A
 near-segments f s x y = f (prev (above-left-of s x y)) (prev (above-of s x y)) (prev (left-of s x y))

@@ -1,8 +1,8 @@
 ghost use mathlib.Core.Path.{_≡_};
-ghost use Prim.Native.Nat.{_*_};
+ghost use Prim.Native.Nat.{_*_, _≤_};
 ghost use Rattle.std.specs.Vec.{made};
 ghost use Rattle.av1.specs.Refusals.{verdict};
-ghost use Rattle.av1.specs.Tiles.{sides-asked, map-asked, placed, Inside};
+ghost use Rattle.av1.specs.Tiles.{sides-asked, map-asked, placed, block-asked, Inside};
 use crate::refusal::Refusal;
 use crate::size::BlockSize;
 use crate::tile::Block;
@@ -34,7 +34,8 @@ impl Tile {
 
     /// How many units the tile has, and so how many cells its map.
     pub fn units(&self) -> usize
-        ensures { λ r. ⌜ r ≡ now (self .entry) .cols * now (self .entry) .rows ⌝ }
+        ensures value { λ r. ⌜ r ≡ now (self .entry) .cols * now (self .entry) .rows ⌝ }
+        ensures most { λ r. ⌜ r ≤ 1048576 ⌝ }
     {
         self.cols * self.rows
     }
@@ -64,5 +65,28 @@ impl Tile {
             width: width.min(self.cols - x),
             height: height.min(self.rows - y),
         })
+    }
+
+    /// The cells of a block that a decision sets: the map's memory has to be enough, neither side longer than
+    /// `longest` pixels, and the position has to fit.
+    pub fn ask_block(
+        &self,
+        memory: usize,
+        longest: usize,
+        x: usize,
+        y: usize,
+        bsize: BlockSize,
+    ) -> Result<Block, Refusal>
+        ensures answer { λ r. ⌜ r ≡ block-asked (now (self .entry) .cols) (now (self .entry) .rows) memory longest x y bsize ⌝ }
+        ensures inside { λ r. ⌜ made r (λ b. Inside (now (self .entry) .cols) (now (self .entry) .rows) b) ⌝ }
+        ensures mapped { λ r. ⌜ made r (λ _. now (self .entry) .cols * now (self .entry) .rows ≤ memory) ⌝ }
+    {
+        if memory < self.units() {
+            return Err(Refusal::MapMemory);
+        }
+        if !bsize.has_no_side_above(longest) {
+            return Err(Refusal::BlockSize);
+        }
+        self.place(x, y, bsize)
     }
 }

@@ -1,7 +1,19 @@
 ghost use mathlib.Core.Path.{_≡_};
-ghost use Rattle.av1.specs.Tiles.{cell-of, above-of, left-of, above-left-of};
+ghost use Prim.Native.Nat.{_≤_};
+ghost use Rattle.av1.specs.Tiles.{cell-of, above-of, left-of, above-left-of, flag-of, skip-context};
 use crate::tile::Cell;
 use crate::tile::Tile;
+
+// 1 for a cell that is there and skipped.
+fn skip_flag(cell: Option<Cell>) -> usize
+    ensures value { λ r. ⌜ r ≡ flag-of cell ⌝ }
+    ensures most { λ r. ⌜ r ≤ 1 ⌝ }
+{
+    let Some(cell) = cell else {
+        return 0;
+    };
+    cell.skip as usize
+}
 
 // A neighbour outside the tile is absent.
 impl Tile {
@@ -45,5 +57,13 @@ impl Tile {
             return None;
         }
         self.cell_of(cells, x - 1, y - 1)
+    }
+
+    /// How many of the cells above and left are skipped.
+    pub fn skip_context(&self, cells: &[Cell], x: usize, y: usize) -> usize
+        ensures value { λ r. ⌜ r ≡ skip-context (now (self .entry) .cols) (now (self .entry) .rows) (now (cells .entry)) x y ⌝ }
+        ensures most { λ r. ⌜ r ≤ 2 ⌝ }
+    {
+        skip_flag(self.above_of(cells, x, y)) + skip_flag(self.left_of(cells, x, y))
     }
 }

@@ -3,7 +3,8 @@ ghost use mathlib.Core.Path.{_≡_};
 ghost use Prim.Native.Nat.{_+_, _<_, _≤_};
 ghost use lib.Dec.{ltb};
 ghost use lib.ListN.{length, getD};
-ghost use Rattle.cdf.specs.Entries.{entry-if};
+ghost use Rattle.std.specs.Slices.{found};
+ghost use Rattle.cdf.specs.Entries.{is-entry, entry-if};
 ghost use Rattle.cdf.specs.Layout.{in-layout, table-sizes};
 ghost use Rattle.cdf.specs.Start.{start-words};
 ghost use Rattle.cdf.specs.Words.{table, entry-at, updated};
@@ -500,6 +501,7 @@ impl Tables {
     /// None, and nothing changes, where the layout has no such table or the table no such symbol.
     pub fn symbol_with_update(&mut self, first: usize, n: usize, s: usize) -> Option<Entry>
         ensures entry { λ r. ⌜ r ≡ entry-if (now (self .entry) .words) (table first n) s ⌝ }
+        ensures lawful { λ r. ⌜ found r (λ e. is-entry e ≡ true) ⌝ }
         ensures words { λ _. ⌜ now (self .exit) .words ≡ cond (in-layout (table first n) && ltb s n) (updated (now (self .entry) .words) (table first n) s) (now (self .entry) .words) ⌝ }
     {
         if !has_table(first, n) || s >= n {

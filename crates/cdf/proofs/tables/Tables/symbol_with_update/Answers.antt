@@ -4,8 +4,10 @@ use mathlib.Core.Path.{_≡_, sym, ap, subst, _∙_}
 use Prim.Native.Nat.{ℕ, _+_, _-_, _<_}
 use native.Mathlib.Omega.{arith}
 use borrow.Rule.Slice.PartMut.{putMid}
+use Rattle.cdf.specs.Entries.{is-entry}
 use Rattle.cdf.specs.Layout.{in-layout, lawful, Sound-words}
 use Rattle.cdf.specs.Words.{Words, table, updated}
+use Rattle.cdf.proofs.Entries.{entry-lawful}
 use Rattle.cdf.proofs.Layouts.{words-stay-sound}
 use Rattle.cdf.proofs.Symbols.{part-updated, part-entry}
 use Rattle.cdf.proofs.tables.Tables.symbol_with_update.Needs as need
@@ -29,4 +31,6 @@ returns c =
     let width : c .args .first + c .args .n - c .args .first ≡ c .args .n = omega arith in
     let words = part-updated w (c .args .first) (c .args .n) (c .args .s) _ (c .update-cdf .last .cdf) (c .args .self .now .long) listed width (c .update-cdf .ensures .words) in
     let entry = part-entry w (c .args .first) (c .args .n) (c .args .s) _ (c .entry-of-entry .result) (c .args .self .now .long) listed width (c .entry-of-entry .ensures) in
-    record { entry = search needs; words = search needs }
+    let below : c .args .s < c .args .n = search needs in
+    let sound : Sound-words w = record { number = c .args .self .now .long; fits = c .args .self .now .fits } in
+    record { entry = search needs; lawful = ap is-entry entry ∙ entry-lawful w t (c .args .s) listed sound below; words = search needs }

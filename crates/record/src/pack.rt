@@ -1,0 +1,24 @@
+ghost use mathlib.Core.Path.{_≡_};
+ghost use lib.ListN.{length};
+ghost use Rattle.record.specs.Packing.{groups, packed-entry};
+use cdf::Entry;
+
+// How many groups of seven bits a number takes.
+fn groups_len(n: u16) -> usize
+    ensures { λ r. ⌜ r ≡ length (groups n) ⌝ }
+{
+    if n < 128 {
+        1
+    } else if n < 16384 {
+        2
+    } else {
+        3
+    }
+}
+
+/// How many bytes an entry takes where it is packed.
+pub fn packed_len(e: Entry) -> usize
+    ensures { λ r. ⌜ r ≡ length (packed-entry e) ⌝ }
+{
+    groups_len(e.s as u16) + groups_len(e.n as u16) + groups_len(e.fl) + groups_len(e.fh)
+}

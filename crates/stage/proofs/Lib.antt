@@ -1,0 +1,5 @@
+mod Calls
+mod Cells
+mod Skips
+mod Starts
+mod Symbols

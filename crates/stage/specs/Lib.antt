@@ -1,0 +1,4 @@
+pub mod Cells
+pub mod Lanes
+pub mod Questions
+pub mod View
