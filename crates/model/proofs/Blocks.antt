@@ -17,7 +17,7 @@ use Rattle.cdf.specs.Lists.{from, Each}
 use Rattle.cdf.proofs.Booleans.{and-first, and-second, and-both, true→T, T→true, not-T→false, same-test}
 use Rattle.journal.specs.declared.Spot.{Spot}
 use Rattle.journal.specs.declared.Spot.the-variants as spot
-use Rattle.model.specs.Decisions.{State, Sound, units, in-tile, put-at, put-spot, put-spots, block-cells, cells-of, skip-spot, segment-spot}
+use Rattle.model.specs.Decisions.{State, units, in-tile, put-at, put-spot, put-spots, block-cells, cells-of, skip-spot, segment-spot}
 use Rattle.model.specs.Facts.{unit-at, covers, with-cells, Skip-set, Segment-set}
 use Rattle.model.proofs.Facts.{cells-inside}
 
@@ -193,11 +193,11 @@ cells-covered s x y z u v placed a b = same-test (holds (v * s .columns + u) (bl
         holds-block (s .columns) wide x u v fits a high y (l, omega arith) m (omega arith)
 
 -- a decision that sets each cell of its block to a value that hangs on the cell alone
-block-set : (h : ℕ → Cell) (s : State) (x y : ℕ) (z : BlockSize) → Sound s → in-tile s x y z ≡ true
+block-set : (h : ℕ → Cell) (s : State) (x y : ℕ) (z : BlockSize) → length (s .cells) ≡ units s → in-tile s x y z ≡ true
     → let next : State = put-spots s (map (λ i. spot.Cell i (h i)) (cells-of s x y z)) in
     (next ≡ with-cells s (next .cells))
     × ((u v : ℕ) → u < s .columns → v < s .rows → unit-at next u v ≡ cond (covers x y z u v) (h (v * s .columns + u)) (unit-at s u v))
-block-set h s x y z sound placed = (only-cells h (cells-of s x y z) s, one)
+block-set h s x y z mapped placed = (only-cells h (cells-of s x y z) s, one)
   where
     columns-same : (is : List ℕ) (s : State) → put-spots s (map (λ i. spot.Cell i (h i)) is) .columns ≡ s .columns
     columns-same [] s = refl
@@ -207,11 +207,11 @@ block-set h s x y z sound placed = (only-cells h (cells-of s x y z) s, one)
         → unit-at (put-spots s (map (λ i. spot.Cell i (h i)) (cells-of s x y z))) u v ≡ cond (covers x y z u v) (h (v * s .columns + u)) (unit-at s u v)
     one u v a b =
         ap (λ c. getD (put-spots s (map (λ i. spot.Cell i (h i)) (cells-of s x y z)) .cells) (v * c + u) no-cell) (columns-same (cells-of s x y z) s)
-        ∙ set-all h (cells-of s x y z) s (v * s .columns + u) (cells-inside s x y z (true→T (in-tile s x y z) placed)) (sound .mapped)
+        ∙ set-all h (cells-of s x y z) s (v * s .columns + u) (cells-inside s x y z (true→T (in-tile s x y z) placed)) mapped
         ∙ ap (λ b. cond b (h (v * s .columns + u)) (unit-at s u v)) (cells-covered s x y z u v (true→T (in-tile s x y z) placed) a b)
 
 pub skip-set : Skip-set
-skip-set s x y z flag sound placed = block-set (λ i. record { skip = flag; segment = getD (s .cells) i no-cell .segment }) s x y z sound placed
+skip-set s x y z flag mapped placed = block-set (λ i. record { skip = flag; segment = getD (s .cells) i no-cell .segment }) s x y z mapped placed
 
 pub segment-set : Segment-set
-segment-set s x y z skip id sound placed = block-set (λ i. record { skip = getD (s .cells) i no-cell .skip; segment = id }) s x y z sound placed
+segment-set s x y z skip id mapped placed = block-set (λ i. record { skip = getD (s .cells) i no-cell .skip; segment = id }) s x y z mapped placed

@@ -50,7 +50,7 @@ with-cells s l = record { columns = s .columns; rows = s .rows; last = s .last; 
 -- of each unit of the tile, a skip decision sets the flag where the block covers it, and leaves all else as it was
 abbrev pub Skip-set : Type 0
 Skip-set =
-    (s : State) (x y : ℕ) (z : BlockSize) (flag : Bool) → Sound s → in-tile s x y z ≡ true
+    (s : State) (x y : ℕ) (z : BlockSize) (flag : Bool) → length (s .cells) ≡ units s → in-tile s x y z ≡ true
     → let next : State = settled s (of.Skip x y z) flag in
     (next ≡ with-cells s (next .cells))
     × ((u v : ℕ) → u < s .columns → v < s .rows
@@ -59,7 +59,7 @@ Skip-set =
 -- and a segment decision sets the segment
 abbrev pub Segment-set : Type 0
 Segment-set =
-    (s : State) (x y : ℕ) (z : BlockSize) (skip : Bool) (id : ℕ) → Sound s → in-tile s x y z ≡ true
+    (s : State) (x y : ℕ) (z : BlockSize) (skip : Bool) (id : ℕ) → length (s .cells) ≡ units s → in-tile s x y z ≡ true
     → let next : State = settled s (of.Segment x y z skip) id in
     (next ≡ with-cells s (next .cells))
     × ((u v : ℕ) → u < s .columns → v < s .rows

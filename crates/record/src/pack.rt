@@ -1,6 +1,8 @@
 ghost use mathlib.Core.Path.{_≡_};
+ghost use Prim.Native.Nat.{_≤_};
 ghost use lib.ListN.{length};
-ghost use Rattle.record.specs.Packing.{groups, packed-entry};
+ghost use Rattle.record.specs.Packing.{groups, packed-entry, packed};
+use crate::sink::Sink;
 use cdf::Entry;
 
 // How many groups of seven bits a number takes.
@@ -18,7 +20,22 @@ fn groups_len(n: u16) -> usize
 
 /// How many bytes an entry takes where it is packed.
 pub fn packed_len(e: Entry) -> usize
-    ensures { λ r. ⌜ r ≡ length (packed-entry e) ⌝ }
+    ensures value { λ r. ⌜ r ≡ length (packed-entry e) ⌝ }
+    ensures most { λ r. ⌜ r ≤ 12 ⌝ }
 {
     groups_len(e.s as u16) + groups_len(e.n as u16) + groups_len(e.fl) + groups_len(e.fh)
+}
+
+/// How many bytes all entries of a sink take where they are packed.
+pub fn packed_bytes<S: Sink>(sink: &S) -> usize
+    ensures { λ r. ⌜ r ≡ length (packed (S·Sink .list (now (sink .entry)))) ⌝ }
+{
+    let mut bytes = 0;
+    for i in 0..sink.count() {
+        match sink.entry(i) {
+            Ok(e) => bytes += packed_len(e),
+            Err(_) => unreachable(),
+        }
+    }
+    bytes
 }

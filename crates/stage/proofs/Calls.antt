@@ -54,6 +54,18 @@ module _ (memory : ℕ) (room : List Entry → ℕ) where
       ap₂ (λ k u. (Ok k, u)) (sym count) (after ∙ sym (by-steps w q d))
       ∙ sym (ap (λ o. (answer-by o (length (sent stage (w .core .state) q (decided (w .core .state) q d) .entries)), answered stage w (ask q d) o .world)) h)
 
+  -- where a call answers a count, the world is that after the call
+  pub accepted-world : (q : Question) (d : Decision q) (w v : World stage) (n : ℕ) → (Ok n, v) ≡ decision-step memory room q d w → v ≡ done-call stage w (ask q d)
+  unfolding decision-step
+  accepted-world q d w v n h = go (refusal stage memory room w (ask q d)) h
+    where
+      count : ℕ
+      count = length (sent stage (w .core .state) q (decided (w .core .state) q d) .entries)
+
+      go : (o : Option Refusal) → _≡_ {A = Result ℕ Refusal × World stage} (Ok n, v) (answer-by o count, answered stage w (ask q d) o .world) → v ≡ done-call stage w (ask q d)
+      go none k = ap (λ p. p .1) k
+      go (some e) k = absurd (let r : _≡_ {A = Result ℕ Refusal} (Ok n) (Err e) = ap (λ p. p .0) k in let z : _≡_ {A = ℕ} 0 1 = cc in let y : ⊥ = omega arith in y)
+
 -- the questions on room and lanes
 refused-cond : (a b : Bool) (e f : Refusal) → or-else (unless a e) (unless b f) ≡ refused-by (cond a (cond b (Ok (tt {0})) (Err f)) (Err e))
 refused-cond true true e f = refl

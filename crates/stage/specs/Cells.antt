@@ -1,13 +1,18 @@
 -- The cells of a block set one by one, each logged while a trial is open.
+use mathlib.Core.Bool.{Bool, cond}
 use mathlib.Core.List.{List, [], _∷_}
-use Prim.Native.Nat.{ℕ}
+use mathlib.Core.Path.{_≡_}
+use Prim.Native.Nat.{ℕ, _+_, _*_, _<_}
 use lib.ListN.{getD, set}
+use Rattle.av1.specs.declared.size.BlockSize.{BlockSize}
 use Rattle.av1.specs.declared.tile.Cell.{Cell}
+use Rattle.av1.specs.declared.tile.Tile.{Tile}
 use Rattle.av1.specs.Tiles.{no-cell}
 use Rattle.journal.specs.declared.Mark.{Mark}
 use Rattle.journal.specs.declared.Spot.{Spot}
 use Rattle.journal.specs.declared.Spot.the-variants as spot
 use Rattle.model.specs.Calls.{log-if}
+use Rattle.model.specs.Facts.{covers}
 use Rattle.model.specs.Runs.{Lane}
 use Rattle.stage.specs.declared.state.cells.Change.{Change}
 use Rattle.stage.specs.declared.state.cells.Change.the-variants as change
@@ -37,3 +42,10 @@ change-one ms k i m = set-one ms i (changed k (getD (m .cells) i no-cell)) m
 abbrev pub change-each : List Mark → Change → List ℕ → Logged-cells → Logged-cells
 change-each ms k [] m = m
 change-each ms k (i ∷ is) m = change-each ms k is (change-one ms k i m)
+
+-- of each unit of the tile, the flag is set where the block covers it, and all else of its cell is as it was
+abbrev pub Flag-set : Tile → ℕ → ℕ → BlockSize → Bool → List Cell → List Cell → Type 0
+Flag-set t x y z flag before after =
+    (u v : ℕ) → u < t .cols → v < t .rows
+    → getD after (v * t .cols + u) no-cell
+    ≡ cond (covers x y z u v) (record { skip = flag; segment = getD before (v * t .cols + u) no-cell .segment }) (getD before (v * t .cols + u) no-cell)

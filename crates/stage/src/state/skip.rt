@@ -5,6 +5,7 @@ ghost use lib.ListN.{length, drop};
 ghost use Rattle.std.specs.Results.{isOk};
 ghost use Rattle.model.specs.Calls.{decision-step};
 ghost use Rattle.model.specs.declared.Question.the-variants as question;
+ghost use Rattle.stage.specs.Cells.{Flag-set};
 ghost use Rattle.stage.specs.Lanes.{Same-memory};
 ghost use Rattle.stage.specs.View.{world, lanes, units-of};
 use crate::state::Stage;
@@ -29,6 +30,7 @@ impl Stage {
         skip: bool,
     ) -> Result<usize, Refusal>
         ensures step { λ r. ⌜ (r, world (now (self .exit)) (now (map .exit)) (lanes (now (log .exit))) (S·Sink .list (now (sink .exit)))) ≡ decision-step (length (now (map .entry))) (S·Sink .rooms (now (sink .entry))) (question.Skip x y bsize) skip (world (now (self .entry)) (now (map .entry)) (lanes (now (log .entry))) (S·Sink .list (now (sink .entry)))) ⌝ }
+        ensures cells { λ r. ⌜ (isOk r ≡ true → Flag-set (now (self .entry) .tile) x y bsize skip (now (map .entry)) (now (map .exit))) ⌝ }
         ensures behind { λ _. ⌜ drop (units-of (now (self .entry))) (now (map .exit)) ≡ drop (units-of (now (self .entry))) (now (map .entry)) ⌝ }
         ensures rooms { λ _. ⌜ S·Sink .rooms (now (sink .exit)) ≡ S·Sink .rooms (now (sink .entry)) ⌝ }
         ensures still { λ r. ⌜ (isOk r ≡ false → (now (sink .exit) ≡ now (sink .entry)) × (now (self .exit) ≡ now (self .entry)) × (now (map .exit) ≡ now (map .entry))) ⌝ }

@@ -1,4 +1,5 @@
 use mathlib.Core.Path.{_≡_, refl, sym, ap, _∙_}
+use mathlib.Core.Bool.{false}
 use mathlib.Core.List.{List}
 use Prim.Native.Nat.{ℕ, _+_, _-_, _*_, _<_, _≤_}
 use native.Mathlib.Omega.{arith}
@@ -6,6 +7,7 @@ use lib.ListN.{length, take, drop}
 use borrow.Rule.Slice.PartMut.{midOf, putMid}
 use borrow.Author.Needs.{needs}
 use Rattle.std.proofs.shelf.Lists.{length-take}
+use Rattle.std.proofs.shelf.Tests.{both-ways}
 use Rattle.std.proofs.shelf.Results.{err-from-errBy}
 use Rattle.av1.specs.declared.tile.Cell.{Cell}
 use Rattle.av1.specs.declared.tile.Tile.{Tile}
@@ -16,9 +18,10 @@ use Rattle.model.proofs.TreeTables.{skip-in-layout}
 use Rattle.model.specs.Decisions.{block-cells}
 use Rattle.stage.specs.declared.state.cells.Change.the-variants as change
 use Rattle.stage.specs.Cells.{Logged-cells, logged-cells}
-use Rattle.stage.specs.View.{lanes, state-of}
+use Rattle.stage.specs.View.{lanes, state-of, world}
 use Rattle.stage.proofs.Cells.{part-taken, part-dropped, quiet-cells}
-use Rattle.stage.proofs.Skips.{refused-block, refused-record, accepted}
+use Rattle.stage.proofs.Calls.{asked-block}
+use Rattle.stage.proofs.Skips.{refused-block, refused-record, accepted, flag-set}
 use Rattle.stage.proofs.state.Stage.write_skip.Needs as need
 
 pub returns-in-Break-block : need.returns-in-Break-block
@@ -30,6 +33,7 @@ returns-in-Break-block g c =
       step =
           refused-block (length (c .args .map .now)) (k .rooms (c .args .sink .now)) (state-of s (c .args .map .now)) (s .journal) (lanes (c .args .log .now)) (k .list (c .args .sink .now))
           (c .args .x) (c .args .y) (c .args .bsize) (c .args .skip) _ (c .in-Break-block .ensures tt .answer);
+      cells = λ h. absurd (both-ways false refl h);
       behind = refl;
       rooms = refl;
       still = λ h. (refl, refl, refl);
@@ -46,6 +50,7 @@ returns-in-Break-ask-record g c =
           refused-record (length (c .args .map .now)) (k .rooms (c .args .sink .now)) (state-of s (c .args .map .now)) (s .journal) (lanes (c .args .log .now)) (k .list (c .args .sink .now))
           (c .args .x) (c .args .y) (c .args .bsize) (c .args .skip) (c .in-Continue-block .block) (c .room .result) _
           (c .in-Continue-block .ensures tt .answer) (c .room .ensures) (c .in-Break-ask-record .ensures tt .answer);
+      cells = λ h. absurd (both-ways false refl h);
       behind = refl;
       rooms = refl;
       still = λ h. (refl, refl, refl);
@@ -117,17 +122,25 @@ returns g c =
     let own : midOf 0 (n - 0) map ≡ take (s′ .tile .cols * s′ .tile .rows) map = ap (λ (i : ℕ). take i map) (part ∙ units′) in
     let context : c .skip-context-ctx .result ≡ skip-context (s .tile .cols) (s .tile .rows) (take (s .tile .cols * s .tile .rows) map) (c .args .x) (c .args .y) =
     c .skip-context-ctx .ensures .value ∙ ap (λ (i : ℕ). skip-context (s .tile .cols) (s .tile .rows) (take i map) (c .args .x) (c .args .y)) (part ∙ units) in
+    let after : List Cell = putMid 0 (n - 0) map (c .set-block .last .cells) in
+    let from = state-of s map in
+    let step =
+    accepted (length map) (k .rooms (c .args .sink .now)) from (s .journal) (lanes (c .args .log .now)) (k .list (c .args .sink .now))
+    (c .args .x) (c .args .y) (c .args .bsize) (c .args .skip)
+    (state-of s′ map) (s′ .journal) (c .set-block .last .self) (lanes (c .symbol .last .log)) _ (k .list (c .symbol .last .sink))
+    (midOf 0 (n - 0) map) (c .set-block .last .cells) _ (c .skip-context-ctx .result) (c .cols .result) (c .room .result) (c .in-Continue-block .block) (c .in-Continue-ask-record .field-0)
+    (ap (λ (t : Tile). t .cols) (c .symbol .ensures .tile)) (ap (λ (t : Tile). t .rows) (c .symbol .ensures .tile)) context
+    (c .symbol .ensures .step map) (c .in-Continue-block .ensures tt .answer) (c .room .ensures) (c .in-Continue-ask-record .ensures tt .answer)
+    (c .cols .ensures ∙ sym (ap (λ (t : Tile). t .cols) (c .symbol .ensures .tile))) own
+    (ap (λ (i : ℕ). take i (putMid 0 (n - 0) map (c .set-block .last .cells))) (sym units′) ∙ part-taken map (c .set-block .last .cells) n (n - 0) part fits long)
+    (c .set-block .ensures .cells) refl refl (kept .0) (kept .1) (kept .2) (kept .3) in
     record {
-      step =
-          accepted (length map) (k .rooms (c .args .sink .now)) (state-of s map) (s .journal) (lanes (c .args .log .now)) (k .list (c .args .sink .now))
-          (c .args .x) (c .args .y) (c .args .bsize) (c .args .skip)
-          (state-of s′ map) (s′ .journal) (c .set-block .last .self) (lanes (c .symbol .last .log)) _ (k .list (c .symbol .last .sink))
-          (midOf 0 (n - 0) map) (c .set-block .last .cells) _ (c .skip-context-ctx .result) (c .cols .result) (c .room .result) (c .in-Continue-block .block) (c .in-Continue-ask-record .field-0)
-          (ap (λ (t : Tile). t .cols) (c .symbol .ensures .tile)) (ap (λ (t : Tile). t .rows) (c .symbol .ensures .tile)) context
-          (c .symbol .ensures .step map) (c .in-Continue-block .ensures tt .answer) (c .room .ensures) (c .in-Continue-ask-record .ensures tt .answer)
-          (c .cols .ensures ∙ sym (ap (λ (t : Tile). t .cols) (c .symbol .ensures .tile))) own
-          (ap (λ (i : ℕ). take i (putMid 0 (n - 0) map (c .set-block .last .cells))) (sym units′) ∙ part-taken map (c .set-block .last .cells) n (n - 0) part fits long)
-          (c .set-block .ensures .cells) refl refl (kept .0) (kept .1) (kept .2) (kept .3);
+      step = step;
+      cells = λ ok.
+          flag-set (length map) (k .rooms (c .args .sink .now)) from (world s map (lanes (c .args .log .now)) (k .list (c .args .sink .now))) _ (s .tile) map after
+          (c .args .x) (c .args .y) (c .args .bsize) (c .args .skip) refl step refl refl refl
+          (ap (λ (t : Tile). take (t .cols * t .rows) after) (c .symbol .ensures .tile)) (c .in-Continue-block .ensures tt .mapped)
+          (asked-block (s .tile .cols) (s .tile .rows) (length map) 64 (c .args .x) (c .args .y) (c .args .bsize) (c .in-Continue-block .block) (c .in-Continue-block .ensures tt .answer) .0);
       behind =
           ap (λ (i : ℕ). drop i (putMid 0 (n - 0) map (c .set-block .last .cells))) (sym units) ∙ part-dropped map (c .set-block .last .cells) n (n - 0) part fits long ∙ ap (λ (i : ℕ). drop i map) units;
       rooms = c .symbol .ensures .rooms;

@@ -4,7 +4,7 @@ use mathlib.Core.Path.{_≡_, sym, _∙_}
 use Rattle.cdf.specs.Layout.{in-layout}
 use Rattle.cdf.specs.Words.{table}
 use Rattle.cdf.proofs.Layouts.{table-inside, table-most}
-use Rattle.cdf.proofs.tables.symbols.has_table.Needs as need
+use Rattle.cdf.proofs.layout.has_table.Needs as need
 
 pub returns-then-n-gt0 : need.returns-then-n-gt0
 unfolding in-layout

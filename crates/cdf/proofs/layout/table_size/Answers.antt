@@ -5,7 +5,7 @@ use lib.ListN.{length}
 use Rattle.std.proofs.shelf.Lists.{getD-past}
 use Rattle.cdf.specs.Layout.{table-sizes}
 use Rattle.cdf.proofs.Layouts.{sizes-number}
-use Rattle.cdf.proofs.tables.symbols.table_size.Needs as need
+use Rattle.cdf.proofs.layout.table_size.Needs as need
 
 pub returns-then-first-lt430 : need.returns-then-first-lt430
 unfolding table-sizes
