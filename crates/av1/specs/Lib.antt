@@ -1,3 +1,4 @@
+pub mod Partitions
 pub mod Refusals
 pub mod Segments
 pub mod Sides

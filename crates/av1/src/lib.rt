@@ -1,10 +1,12 @@
 //! The AV1 standard's vocabulary: block sizes, vector precisions, the tile with its cells and their neighbours, and the refusals of every call.
 pub mod mv;
+pub mod partition;
 pub mod refusal;
 pub mod size;
 pub mod tile;
 
 pub use crate::mv::MvSubpelPrecision;
+pub use crate::partition::PartitionType;
 pub use crate::refusal::Refusal;
 pub use crate::size::BlockSize;
 pub use crate::tile::Block;
