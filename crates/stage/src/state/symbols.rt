@@ -54,6 +54,8 @@ impl Journal {
         ensures small { λ _. ⌜ lane (now (now (log .exit) .small)) (now (self .exit) .small) ≡ log-if (marks-of (now (self .entry) .marks) (now (self .entry) .trials)) (lane (now (now (log .entry) .small)) (now (self .entry) .small)) (small-log (whole (table first n)) (now (tables .entry) .words)) ⌝ }
         ensures large { λ _. ⌜ lane (now (now (log .exit) .large)) (now (self .exit) .large) ≡ log-if (marks-of (now (self .entry) .marks) (now (self .entry) .trials)) (lane (now (now (log .entry) .large)) (now (self .entry) .large)) (large-log (whole (table first n)) (now (tables .entry) .words)) ⌝ }
         ensures spots { λ _. ⌜ (now (now (log .exit) .spots) ≡ now (now (log .entry) .spots)) × (now (self .exit) .spots ≡ now (self .entry) .spots) ⌝ }
+        ensures few { λ _. ⌜ (n ≤ 4 → (now (self .exit) .small ≤ now (self .entry) .small + 1) × (now (self .exit) .large ≡ now (self .entry) .large)) ⌝ }
+        ensures many { λ _. ⌜ (4 < n → (now (self .exit) .large ≤ now (self .entry) .large + 1) × (now (self .exit) .small ≡ now (self .entry) .small)) ⌝ }
         ensures trials { λ _. ⌜ (now (self .exit) .trials ≡ now (self .entry) .trials) × (now (self .exit) .marks ≡ now (self .entry) .marks) ⌝ }
         ensures memory { λ _. ⌜ Same-memory (now (log .exit)) (now (log .entry)) ⌝ }
     {
@@ -85,6 +87,9 @@ impl Stage {
         requires large { ⌜ (0 < now self .journal .trials → 4 < n → now self .journal .large < length (now (now log .large))) ⌝ }
         ensures step { λ _. ⌜ ((memory : List Cell) → world (now (self .exit)) memory (lanes (now (log .exit))) (S·Sink .list (now (sink .exit))) ≡ symbol-step (whole (table first n)) s (world (now (self .entry)) memory (lanes (now (log .entry))) (S·Sink .list (now (sink .entry))))) ⌝ }
         ensures rooms { λ _. ⌜ S·Sink .rooms (now (sink .exit)) ≡ S·Sink .rooms (now (sink .entry)) ⌝ }
+        ensures left { λ _. ⌜ S·Sink .rooms (now (sink .entry)) (S·Sink .list (now (sink .entry))) ≤ S·Sink .rooms (now (sink .exit)) (S·Sink .list (now (sink .exit))) + 1 ⌝ }
+        ensures few { λ _. ⌜ (n ≤ 4 → (now (self .exit) .journal .small ≤ now (self .entry) .journal .small + 1) × (now (self .exit) .journal .large ≡ now (self .entry) .journal .large)) ⌝ }
+        ensures many { λ _. ⌜ (4 < n → (now (self .exit) .journal .large ≤ now (self .entry) .journal .large + 1) × (now (self .exit) .journal .small ≡ now (self .entry) .journal .small)) ⌝ }
         ensures memory { λ _. ⌜ Same-memory (now (log .exit)) (now (log .entry)) ⌝ }
         ensures tile { λ _. ⌜ now (self .exit) .tile ≡ now (self .entry) .tile ⌝ }
         ensures trials { λ _. ⌜ now (self .exit) .journal .trials ≡ now (self .entry) .journal .trials ⌝ }

@@ -5,10 +5,11 @@ use native.Mathlib.Omega.{arith}
 use borrow.Author.Needs.{needs}
 use Rattle.cdf.specs.Words.{table}
 use Rattle.journal.specs.declared.Mark.{Mark}
+use Rattle.journal.specs.declared.Window.{Window}
 use Rattle.model.specs.Calls.{log-if, small-log, large-log}
 use Rattle.model.specs.Coders.{whole}
 use Rattle.model.specs.Decisions.{window-at}
-use Rattle.model.specs.Runs.{logged}
+use Rattle.model.specs.Runs.{Lane, logged}
 use Rattle.stage.specs.View.{lane, marks-of}
 use Rattle.stage.proofs.Symbols.{small-inside, large-inside, log-open, log-none, small-window, no-small-window, large-window, no-large-window}
 use Rattle.stage.proofs.state.Journal.log_table.Needs as need
@@ -35,6 +36,8 @@ returns-then-n-le4 c =
           ∙ sym (ap (log-if (marks-of (j .marks) (j .trials)) was) (small-window words first n few));
       large = log-none (j .marks) (j .trials) (lane (c .args .log .now .large .now) (j .large)) (large-log (whole (table first n)) words) (no-large-window words first n few);
       spots = (refl, refl);
+      few = λ h. (omega (arith, ap (λ (l : Lane (Window 4)). l .used) (c .log-record .ensures .lane)), refl);
+      many = λ h. absurd (omega (arith, few));
       trials = (refl, refl);
       memory = search needs;
     }
@@ -55,6 +58,8 @@ returns-else-n-le4 c =
           ∙ ap (λ w. logged was (window-at 16 w first ∷ [])) (c .words-else-n-le4 .ensures) ∙ log-open (j .marks) (j .trials) was (window-at 16 words first ∷ []) some
           ∙ sym (ap (log-if (marks-of (j .marks) (j .trials)) was) (large-window words first n many));
       spots = (refl, refl);
+      few = λ h. absurd (omega (arith, many));
+      many = λ h. (omega (arith, ap (λ (l : Lane (Window 16)). l .used) (c .log-record-else-n-le4 .ensures .lane)), refl);
       trials = (refl, refl);
       memory = search needs;
     }
