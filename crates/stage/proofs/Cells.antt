@@ -27,30 +27,14 @@ use Rattle.stage.specs.declared.state.Journal.{Journal}
 use Rattle.stage.specs.declared.state.cells.Change.{Change}
 use Rattle.stage.specs.Cells.{Logged-cells, logged-cells, changed, change-one, change-each}
 use Rattle.stage.specs.View.{lane, marks-of, world-at}
-
--- one cell of a row, and the rest
-pub row-turn : (ms ns : List Mark) (k : Change) (first i n : ℕ) (m m′ w : Logged-cells) → i < n → ns ≡ ms → m′ ≡ change-one ns k (first + i) m
-    → change-each ms k (from (first + i) (n - i)) m ≡ w → change-each ms k (from (first + (i + 1)) (n - (i + 1))) m′ ≡ w
-row-turn ms ns k first i n m m′ w l marks one all =
-    ap₂ (λ j z. change-each ms k (from j (n - (i + 1))) z) next (one ∙ ap (λ z. change-one z k (first + i) m) marks)
-    ∙ sym (ap (λ r. change-each ms k (from (first + i) r) m) left) ∙ all
-  where
-    next : first + (i + 1) ≡ suc (first + i)
-    next = omega arith
-
-    left : n - i ≡ suc (n - (i + 1))
-    left = omega arith
-
-each-append : (ms : List Mark) (k : Change) (is js : List ℕ) (m : Logged-cells) → change-each ms k (is ++ js) m ≡ change-each ms k js (change-each ms k is m)
-each-append ms k [] js m = refl
-each-append ms k (i ∷ is) js m = each-append ms k is js (change-one ms k i m)
+use Rattle.stage.proofs.Places.{each-append}
 
 -- one row of a block, and the rest
 pub block-turn : (ms ns : List Mark) (k : Change) (columns wide first i n : ℕ) (m m′ w : Logged-cells) → i < n → ns ≡ ms → m′ ≡ change-each ns k (from (first + i * columns) wide) m
     → change-each ms k (block-cells columns wide (first + i * columns) (n - i)) m ≡ w → change-each ms k (block-cells columns wide (first + (i + 1) * columns) (n - (i + 1))) m′ ≡ w
 block-turn ms ns k columns wide first i n m m′ w l marks row all =
     ap₂ (λ j z. change-each ms k (block-cells columns wide j (n - (i + 1))) z) next (row ∙ ap (λ z. change-each z k (from (first + i * columns) wide) m) marks)
-    ∙ sym (each-append ms k (from (first + i * columns) wide) (block-cells columns wide (first + i * columns + columns) (n - (i + 1))) m)
+    ∙ sym (each-append (change-one ms k) (from (first + i * columns) wide) (block-cells columns wide (first + i * columns + columns) (n - (i + 1))) m)
     ∙ sym (ap (λ r. change-each ms k (block-cells columns wide (first + i * columns) r) m) left) ∙ all
   where
     next : first + (i + 1) * columns ≡ first + i * columns + columns

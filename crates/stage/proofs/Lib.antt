@@ -1,5 +1,6 @@
 mod Calls
 mod Cells
+mod Places
 mod Skips
 mod Starts
 mod Symbols

@@ -16,6 +16,7 @@ use Rattle.model.specs.Facts.{covers}
 use Rattle.model.specs.Runs.{Lane}
 use Rattle.stage.specs.declared.state.cells.Change.{Change}
 use Rattle.stage.specs.declared.state.cells.Change.the-variants as change
+use Rattle.stage.specs.Places.{at-each}
 use Rattle.stage.specs.View.{lane}
 
 -- a cell with its flag or its segment set
@@ -40,8 +41,7 @@ abbrev pub change-one : List Mark → Change → ℕ → Logged-cells → Logged
 change-one ms k i m = set-one ms i (changed k (getD (m .cells) i no-cell)) m
 
 abbrev pub change-each : List Mark → Change → List ℕ → Logged-cells → Logged-cells
-change-each ms k [] m = m
-change-each ms k (i ∷ is) m = change-each ms k is (change-one ms k i m)
+change-each ms k is m = at-each (change-one ms k) is m
 
 -- of each unit of the tile, the flag is set where the block covers it, and all else of its cell is as it was
 abbrev pub Flag-set : Tile → ℕ → ℕ → BlockSize → Bool → List Cell → List Cell → Type 0

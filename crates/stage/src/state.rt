@@ -4,7 +4,9 @@ use av1::Tile;
 use cdf::Tables;
 use journal::Mark;
 
+mod bytes;
 mod cells;
+
 mod questions;
 mod skip;
 mod start;
