@@ -1,7 +1,8 @@
 -- A tile of columns × rows units: its cells, row by row, the neighbours of a unit, and the cells of a block.
-use mathlib.Core.Bool.{Bool, false, cond, _&&_}
+use mathlib.Core.Bool.{Bool, false, true, cond, _&&_}
 use mathlib.Core.List.{List}
-use Prim.Native.Nat.{ℕ, _+_, _-_, _*_, _%_, _<_, _≤_, min}
+use mathlib.Core.Path.{_≡_}
+use Prim.Native.Nat.{ℕ, _+_, _-_, _*_, _/_, _%_, _<_, _≤_, min}
 use lib.Dec.{ltb, leb, eqb}
 use lib.ListN.{getD, length}
 use mir.Val.{boolByte}
@@ -15,7 +16,7 @@ use Rattle.av1.specs.declared.size.BlockSize.{BlockSize}
 use Rattle.av1.specs.declared.tile.Block.{Block}
 use Rattle.av1.specs.declared.tile.Cell.{Cell}
 use Rattle.av1.specs.Sides.{side}
-use Rattle.av1.specs.Sizes.{width-mi, height-mi, no-side-above}
+use Rattle.av1.specs.Sizes.{width, height, width-mi, height-mi, no-side-above, splits}
 
 -- what every cell is at the start
 abbrev pub no-cell : Cell
@@ -67,9 +68,24 @@ module _ (columns rows : ℕ) where
   block-asked memory longest x y z =
       cond (leb (columns * rows) memory) (cond (no-side-above longest z) (placed x y z) (Err no.BlockSize)) (Err no.MapMemory)
 
+  -- a square that a partition may split, at a position in the tile
+  abbrev pub square-asked : ℕ → ℕ → ℕ → BlockSize → Result (Unit {0}) Refusal
+  square-asked largest x y z = cond (splits largest z) (cond (in-tile x y z) (Ok tt) (Err no.Position)) (Err no.BlockSize)
+
+  pub record Placed (largest x y : ℕ) (z : BlockSize) : Type 0 where
+    pub square : splits largest z ≡ true
+    pub inside : in-tile x y z ≡ true
+
   -- every row of the block lies among the tile's cells
   pub record Inside (b : Block) : Type 0 where
     pub some : 0 < b .width
     pub wide : b .width ≤ 32
     pub high : b .height ≤ 32
     pub row : (k : ℕ) → k < b .height → b .from + k * columns + b .width ≤ columns * rows
+
+-- the lower half of a block has rows in a tile of so many rows, the right half columns
+abbrev pub has-rows : ℕ → ℕ → BlockSize → Bool
+has-rows rows y z = ltb (y + height z / 8) rows
+
+abbrev pub has-columns : ℕ → ℕ → BlockSize → Bool
+has-columns columns x z = ltb (x + width z / 8) columns

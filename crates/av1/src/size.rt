@@ -1,6 +1,6 @@
 ghost use mathlib.Core.Path.{_≡_};
 ghost use Prim.Native.Nat.{_<_, _≤_};
-ghost use Rattle.av1.specs.Sizes.{width-log2, height-log2, width, height, width-mi, height-mi, square, fits-in, no-side-above};
+ghost use Rattle.av1.specs.Sizes.{width-log2, height-log2, width, height, width-mi, height-mi, square, fits-in, no-side-above, splits};
 
 /// The sizes of a block, in the order of the standard's numbers.
 #[derive(Clone, Copy)]
@@ -130,5 +130,13 @@ impl BlockSize {
         ensures { λ r. ⌜ r ≡ no-side-above side self ⌝ }
     {
         self.width() <= side && self.height() <= side
+    }
+
+    /// Whether a partition may split the block: a square of 8 pixels at least and `largest` at most.
+    pub fn splits(self, largest: usize) -> bool
+        ensures { λ r. ⌜ r ≡ splits largest self ⌝ }
+    {
+        let width = self.width();
+        self.is_sqr() && 8 <= width && width <= largest
     }
 }

@@ -62,7 +62,7 @@ abbrev before : ℕ → List ℕ → ℕ → ℕ
 before top vs zero = top
 before top vs (suc s) = getD vs s 0
 
-value-falls : (top : ℕ) (vs : List ℕ) (s : ℕ) → Descends top vs → s + 1 < length vs → getD vs s 0 ≤ before top vs s
+pub value-falls : (top : ℕ) (vs : List ℕ) (s : ℕ) → Descends top vs → s + 1 < length vs → getD vs s 0 ≤ before top vs s
 value-falls top [] s d h = absurd d
 value-falls top (c ∷ []) s d h = absurd (omega arith)
 value-falls top (v ∷ x ∷ xs) zero d h = d .0
@@ -75,13 +75,26 @@ value-high top (c ∷ []) s d h = absurd (omega arith)
 value-high top (v ∷ x ∷ xs) zero d h = d .0
 value-high top (v ∷ x ∷ xs) (suc s) d h = let low : getD (x ∷ xs) s 0 ≤ v = value-high v (x ∷ xs) s (d .1) (omega arith) in omega (arith, d .0)
 
+-- the values around a symbol do not rise
+pub value-order : (count : ℕ) (vs : List ℕ) (s : ℕ) → length vs ≡ count → Lawful-table vs → s < count → fh-at count vs s ≤ fl-at vs s
+value-order count vs s long falls l = upper s (eqb (suc s) count) (eqb→eq (suc s) count) (λ n. more (ℕ-discrete (suc s) count) n)
+  where
+    upper : (s : ℕ) (b : Bool) → (T b → suc s ≡ count) → ((T b → ⊥) → s + 1 < count) → cond b 0 (getD vs s 0) ≤ fl-at vs s
+    upper s true e n = omega arith
+    upper zero false e n = value-falls 32768 vs zero falls (omega (arith, long, n (λ z. z)))
+    upper (suc s) false e n = value-falls 32768 vs (suc s) falls (omega (arith, long, n (λ z. z)))
+
+    more : Dec (suc s ≡ count) → (T (eqb (suc s) count) → ⊥) → s + 1 < count
+    more (yes e) n = absurd (n (subst (λ k. T (eqb (suc s) k)) e (eqb-refl (suc s))))
+    more (no e) n = omega (arith, l)
+
 pub entry-lawful : (w : Words) (t : Table) (s : ℕ) → in-layout t ≡ true → Sound-words w → s < t .count → is-entry (entry-at (t .count) (words-of w t) s) ≡ true
 entry-lawful w t s h sound below =
     T→true (is-entry (entry-at (t .count) vs s))
     (and-both (ltb s (t .count)) _ (lt→ltb s (t .count) below)
     (and-both (leb 2 (t .count)) _ (le→leb 2 (t .count) (table-least t h))
     (and-both (leb (t .count) 16) _ (le→leb (t .count) 16 (table-most t h))
-    (and-both (leb (fh-at (t .count) vs s) (fl-at vs s)) _ (le→leb _ _ (order s below)) (le→leb _ _ (high s below))))))
+    (and-both (leb (fh-at (t .count) vs s) (fl-at vs s)) _ (le→leb _ _ (value-order (t .count) (words-of w t) s long falls below)) (le→leb _ _ (high s below))))))
   where
     vs : List ℕ
     vs = words-of w t
@@ -91,18 +104,6 @@ entry-lawful w t s h sound below =
 
     falls : Descends 32768 (words-of w t)
     falls = table-lawful w t h sound
-
-    upper : (s : ℕ) (b : Bool) → (T b → suc s ≡ t .count) → ((T b → ⊥) → s + 1 < t .count) → cond b 0 (getD (words-of w t) s 0) ≤ fl-at (words-of w t) s
-    upper s true e n = omega arith
-    upper zero false e n = value-falls 32768 (words-of w t) zero falls (omega (arith, long, n (λ z. z)))
-    upper (suc s) false e n = value-falls 32768 (words-of w t) (suc s) falls (omega (arith, long, n (λ z. z)))
-
-    order : (s : ℕ) → s < t .count → fh-at (t .count) (words-of w t) s ≤ fl-at (words-of w t) s
-    order s l = upper s (eqb (suc s) (t .count)) (eqb→eq (suc s) (t .count)) (λ n. more (ℕ-discrete (suc s) (t .count)) n)
-      where
-        more : Dec (suc s ≡ t .count) → (T (eqb (suc s) (t .count)) → ⊥) → s + 1 < t .count
-        more (yes e) n = absurd (n (subst (λ k. T (eqb (suc s) k)) e (eqb-refl (suc s))))
-        more (no e) n = omega (arith, l)
 
     high : (s : ℕ) → s < t .count → fl-at (words-of w t) s ≤ 32768
     high zero l = omega arith

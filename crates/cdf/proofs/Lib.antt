@@ -1,5 +1,6 @@
 pub mod Adapting
 pub mod Booleans
+pub mod Edges
 pub mod Entries
 pub mod Layouts
 pub mod Ranges

@@ -34,6 +34,14 @@ fh-at count vs s = cond (eqb (suc s) count) 0 (getD vs s 0)
 abbrev pub entry-at : ℕ → List ℕ → ℕ → Entry
 entry-at count vs s = record { s = s; n = count; fl = fl-at vs s; fh = fh-at count vs s }
 
+-- the width of a symbol, 0 of one that the table has not, and the sum of the listed symbols' widths
+abbrev pub width-of : ℕ → List ℕ → ℕ → ℕ
+width-of count vs s = cond (ltb s count) (fl-at vs s - fh-at count vs s) 0
+
+abbrev pub widths : ℕ → List ℕ → List ℕ → ℕ
+widths count vs [] = 0
+widths count vs (s ∷ ss) = width-of count vs s + widths count vs ss
+
 -- a value after a symbol: one before it gains, the others lose
 abbrev pub moved : ℕ → Bool → ℕ → ℕ
 moved rate before v = cond before (v + (32768 - v) / 2 ^ rate) (v - v / 2 ^ rate)

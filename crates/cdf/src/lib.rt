@@ -8,3 +8,4 @@ pub mod tables;
 pub use crate::adapt::update_cdf;
 pub use crate::entry::Entry;
 pub use crate::tables::Tables;
+pub use crate::tables::edges::Edge;

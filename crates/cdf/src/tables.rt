@@ -3,6 +3,7 @@ ghost use mathlib.Core.Path.{_≡_};
 ghost use lib.ListN.{length};
 ghost use Rattle.cdf.specs.Layout.{lawful};
 
+pub mod edges;
 mod symbols;
 
 /// The 430 words, in which every table is lawful and every filler word is zero.

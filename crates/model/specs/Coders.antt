@@ -4,7 +4,7 @@ use mathlib.Core.List.{List, [], _∷_}
 use Prim.Native.Nat.{ℕ, _+_, _-_}
 use lib.Dec.{eqb, ltb}
 use Rattle.cdf.specs.declared.entry.Entry.{Entry}
-use Rattle.cdf.specs.Words.{Words, Table, words-of, fl-at, fh-at, entry-at, updated}
+use Rattle.cdf.specs.Words.{Words, Table, words-of, fl-at, fh-at, entry-at, updated, widths}
 
 pub data Coder : Type 0 where
   whole : Table → Coder
@@ -14,11 +14,6 @@ pub data Coder : Type 0 where
 abbrev pub table-of : Coder → Table
 table-of (whole t) = t
 table-of (edge t ss) = t
-
--- the widths of the listed symbols, of those that the table has
-abbrev pub widths : ℕ → List ℕ → List ℕ → ℕ
-widths count vs [] = 0
-widths count vs (s ∷ ss) = cond (ltb s count) (fl-at vs s - fh-at count vs s) 0 + widths count vs ss
 
 -- how many symbols there are, and the values that they are coded by
 abbrev pub symbols : Coder → ℕ

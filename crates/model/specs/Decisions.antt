@@ -175,10 +175,10 @@ table-at s x y z = partition-table (level z) (context s x y (level z))
 
 -- the half of a block lies inside the tile
 abbrev pub has-rows : State → ℕ → BlockSize → Bool
-has-rows s y z = ltb (y + height z / 8) (s .rows)
+has-rows s y z = tile.has-rows (s .rows) y z
 
 abbrev pub has-columns : State → ℕ → BlockSize → Bool
-has-columns s x z = ltb (x + width z / 8) (s .columns)
+has-columns s x z = tile.has-columns (s .columns) x z
 
 -- an edge symbol: 1 splits, 0 is the partition named
 abbrev pub edge-says : ℕ → ℕ → ℕ

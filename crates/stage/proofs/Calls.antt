@@ -6,7 +6,7 @@ use mathlib.Core.Option.{Option, none, some}
 use Prim.Native.Nat.{ℕ, zero, suc, _+_, _*_, _<_, _≤_}
 use native.Mathlib.Nat.{suc-mul}
 use native.Mathlib.Omega.{arith}
-use lib.Dec.{T, leb, ltb, lt→ltb}
+use lib.Dec.{T, leb, ltb, le→leb, lt→ltb}
 use lib.ListN.{length}
 use Rattle.std.specs.declared.result.Result.{Result}
 use Rattle.std.specs.declared.result.Result.the-variants.{Ok, Err}
@@ -28,7 +28,7 @@ use Rattle.model.specs.declared.Question.{Question}
 use Rattle.model.specs.declared.Question.the-variants as question
 use Rattle.model.specs.Calls.{answer-by, decision-step, symbol-steps, spot-steps}
 use Rattle.model.specs.Decisions.{State, Decision, stage, with-words, tree, path, decided, spots, trail, old-spots, put-spot, block-cells, cells-of, skip-spot, asked-open}
-use Rattle.model.specs.Runs.{World, Lent, ask, refusal, answered, done-call, sent, or-else, unless, open-questions, lanes-asked}
+use Rattle.model.specs.Runs.{World, Lent, ask, refusal, answered, step, done-call, sent, or-else, unless, open-questions, lanes-asked}
 use Rattle.model.specs.Tree.{written}
 use Rattle.model.proofs.Stepping.{by-steps}
 use Rattle.stage.specs.declared.state.Journal.{Journal}
@@ -37,12 +37,25 @@ use Rattle.stage.specs.View.{marks-of, world-at, refused-by}
 
 module _ (memory : ℕ) (room : List Entry → ℕ) where
   -- a refused call answers the refusal, and the world stays
+  pub refused-call : {A : Type 0} (q : Question) (d : Decision q) (a : A) (w : World stage) (e : Refusal) → refusal stage memory room w (ask q d) ≡ some e
+      → _≡_ {A = Result A Refusal × World stage} (Err e, w) (answer-by (refusal stage memory room w (ask q d)) a, step stage memory room w (ask q d) .world)
+  refused-call q d a w e h = sym (ap (λ o. (answer-by o a, answered stage w (ask q d) o .world)) h)
+
+  -- an accepted call answers, and the world is that after its symbols and its spots
+  pub accepted-call : {A : Type 0} (q : Question) (d : Decision q) (a : A) (w v : World stage) → refusal stage memory room w (ask q d) ≡ none
+      → (let s : State = w .core .state in
+      let e : Decision q = decided s q d in
+      v ≡ spot-steps (spots (with-words s (written (s .words) (tree s q) (path s q e) .words)) q e) (symbol-steps (tree s q) (path s q e) w))
+      → _≡_ {A = Result A Refusal × World stage} (Ok a, v) (answer-by (refusal stage memory room w (ask q d)) a, step stage memory room w (ask q d) .world)
+  accepted-call q d a w v h after =
+      ap (λ u. (Ok a, u)) (after ∙ sym (by-steps w q d))
+      ∙ sym (ap (λ o. (answer-by o a, answered stage w (ask q d) o .world)) h)
+
   pub refused-step : (q : Question) (d : Decision q) (w : World stage) (e : Refusal) → refusal stage memory room w (ask q d) ≡ some e → (Err e, w) ≡ decision-step memory room q d w
   unfolding decision-step
-  refused-step q d w e h =
-      sym (ap (λ o. (answer-by o (length (sent stage (w .core .state) q (decided (w .core .state) q d) .entries)), answered stage w (ask q d) o .world)) h)
+  refused-step q d w e h = refused-call q d (length (sent stage (w .core .state) q (decided (w .core .state) q d) .entries)) w e h
 
-  -- an accepted call answers how many entries it wrote, and the world is that after its symbols and its spots
+  -- a decision answers how many entries it wrote
   pub accepted-step : (q : Question) (d : Decision q) (w v : World stage) (n : ℕ) → refusal stage memory room w (ask q d) ≡ none
       → length (sent stage (w .core .state) q (decided (w .core .state) q d) .entries) ≡ n
       → (let s : State = w .core .state in
@@ -51,8 +64,7 @@ module _ (memory : ℕ) (room : List Entry → ℕ) where
       → (Ok n, v) ≡ decision-step memory room q d w
   unfolding decision-step
   accepted-step q d w v n h count after =
-      ap₂ (λ k u. (Ok k, u)) (sym count) (after ∙ sym (by-steps w q d))
-      ∙ sym (ap (λ o. (answer-by o (length (sent stage (w .core .state) q (decided (w .core .state) q d) .entries)), answered stage w (ask q d) o .world)) h)
+      ap (λ k. (Ok k, v)) (sym count) ∙ accepted-call q d (length (sent stage (w .core .state) q (decided (w .core .state) q d) .entries)) w v h after
 
   -- where a call answers a count, the world is that after the call
   pub accepted-world : (q : Question) (d : Decision q) (w v : World stage) (n : ℕ) → (Ok n, v) ≡ decision-step memory room q d w → v ≡ done-call stage w (ask q d)
@@ -98,6 +110,10 @@ pub record-refusal : (s : State) (j : Journal) (l : Lent stage) (es : List Entry
 record-refusal s j l es q d r n a b c quiet entries small large spots′ =
     ap₂ (λ k o. or-else (unless (leb k r) no.Room) o) entries (open-asked s j l es q d a b c quiet small large spots′)
     ∙ refused-cond (leb n r) (lanes-fit j l (need a b c)) no.Room no.LogRoom
+
+-- where there are no entries, there is room
+pub no-entries : (r : ℕ) (o : Option Refusal) → or-else (unless (leb 0 r) no.Room) o ≡ o
+no-entries r o = ap (λ b. or-else (unless b no.Room) o) (T→true (leb 0 r) (le→leb 0 r (omega arith)))
 
 -- how many spots a block has
 length-olds : (ps : List Spot) (s : State) → length (old-spots s ps) ≡ length ps

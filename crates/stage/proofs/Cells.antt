@@ -14,7 +14,7 @@ use Rattle.av1.specs.declared.tile.Block.{Block}
 use Rattle.av1.specs.declared.tile.Cell.{Cell}
 use Rattle.av1.specs.Tiles.{no-cell, block-at}
 use Rattle.cdf.specs.declared.entry.Entry.{Entry}
-use Rattle.cdf.specs.Lists.{from, Each}
+use Rattle.cdf.specs.Lists.{from, Each, Rising}
 use Rattle.cdf.proofs.Booleans.{T→true}
 use Rattle.journal.specs.declared.Mark.{Mark}
 use Rattle.journal.specs.declared.Spot.the-variants as spot
@@ -56,11 +56,6 @@ put-cells w m =
       spots = m .spots;
       marks = w .marks;
     }
-
--- numbers that rise, from a bound on
-abbrev Rising : ℕ → List ℕ → Type 0
-Rising b [] = Unit {0}
-Rising b (i ∷ is) = (b ≤ i) × Rising (suc i) is
 
 rising-append : (n b i : ℕ) (rest : List ℕ) → b ≤ i → Rising (i + n) rest → Rising b (from i n ++ rest)
 rising-append zero b i rest l h = rising-less b (i + 0) rest (omega arith) h

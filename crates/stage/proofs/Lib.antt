@@ -1,5 +1,6 @@
 mod Calls
 mod Cells
+mod Contexts
 mod Places
 mod Skips
 mod Starts

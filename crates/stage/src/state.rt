@@ -1,5 +1,6 @@
 ghost use mathlib.Core.Path.{_≡_};
 ghost use Prim.Native.Nat.{_≤_};
+ghost use lib.ListN.{length};
 use av1::Tile;
 use cdf::Tables;
 use journal::Mark;
@@ -8,6 +9,7 @@ mod bytes;
 mod cells;
 
 mod questions;
+mod rows;
 mod skip;
 mod start;
 mod symbols;
@@ -39,5 +41,7 @@ pub struct Stage {
     journal: Journal,
     ghost ends: { last ≤ 7 },
     ghost few: { journal .trials ≤ 16 },
+    ghost over: { length (contexts .above) ≡ 512 },
+    ghost beside: { length (contexts .left) ≡ 8 },
     ghost quiet: { (journal .trials ≡ 0 → (journal .small ≡ 0) × (journal .large ≡ 0) × (journal .spots ≡ 0)) },
 }

@@ -2,7 +2,7 @@ ghost use mathlib.Core.Path.{_≡_};
 ghost use Prim.Native.Nat.{_*_, _≤_};
 ghost use Rattle.std.specs.Vec.{made};
 ghost use Rattle.av1.specs.Refusals.{verdict};
-ghost use Rattle.av1.specs.Tiles.{sides-asked, map-asked, placed, block-asked, Inside};
+ghost use Rattle.av1.specs.Tiles.{sides-asked, map-asked, placed, block-asked, square-asked, has-rows, has-columns, Inside, Placed};
 use crate::refusal::Refusal;
 use crate::size::BlockSize;
 use crate::tile::Block;
@@ -88,5 +88,41 @@ impl Tile {
             return Err(Refusal::BlockSize);
         }
         self.place(x, y, bsize)
+    }
+
+    /// Whether a partition may split the block: a square of `largest` pixels at most, at a position that fits.
+    pub fn ask_square(
+        &self,
+        largest: usize,
+        x: usize,
+        y: usize,
+        bsize: BlockSize,
+    ) -> Result<(), Refusal>
+        ensures answer { λ r. ⌜ r ≡ square-asked (now (self .entry) .cols) (now (self .entry) .rows) largest x y bsize ⌝ }
+        ensures placed { λ r. ⌜ made r (λ _. Placed (now (self .entry) .cols) (now (self .entry) .rows) largest x y bsize) ⌝ }
+    {
+        if !bsize.splits(largest) {
+            return Err(Refusal::BlockSize);
+        }
+        match self.place(x, y, bsize) {
+            Ok(_) => Ok(()),
+            Err(refusal) => Err(refusal),
+        }
+    }
+
+    /// Whether the lower half of a block at row `y` has rows in the tile.
+    pub fn has_rows(&self, y: usize, bsize: BlockSize) -> bool
+        ensures { λ r. ⌜ r ≡ has-rows (now (self .entry) .rows) y bsize ⌝ }
+    {
+        let half = bsize.height_mi() / 2;
+        y < self.rows && half < self.rows - y
+    }
+
+    /// Whether the right half of a block at column `x` has columns in the tile.
+    pub fn has_cols(&self, x: usize, bsize: BlockSize) -> bool
+        ensures { λ r. ⌜ r ≡ has-columns (now (self .entry) .cols) x bsize ⌝ }
+    {
+        let half = bsize.width_mi() / 2;
+        x < self.cols && half < self.cols - x
     }
 }

@@ -15,7 +15,7 @@ use crate::start::start_words;
 use crate::tables::Tables;
 
 // The entry of symbol `s` of a table.
-fn entry_of(cdf: &[u16], s: usize) -> Entry
+pub(super) fn entry_of(cdf: &[u16], s: usize) -> Entry
     requires { ⌜ (s < length (now cdf)) × (length (now cdf) ≤ 16) ⌝ }
     ensures { λ r. ⌜ r ≡ entry-at (length (now (cdf .entry))) (now (cdf .entry)) s ⌝ }
 {

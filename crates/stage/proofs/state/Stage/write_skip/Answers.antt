@@ -93,15 +93,21 @@ ghost-self g c =
       (
         omega (arith, kept .0, s .few),
         (
-          (λ closed.
-              let before : s .journal .trials ≡ 0 = sym (kept .0) ∙ closed in
-              let unused = s .quiet before in (
-                kept .2 ∙ unused .0,
-                kept .3 ∙ unused .1,
-                ap (λ (m : Logged-cells). m .spots .used) (c .set-block .ensures .cells)
-                    ∙ ap (λ (l : Lane Spot). l .used) (quiet-cells (s .journal .marks) (s .journal .trials) (change.Skip (c .args .skip)) (block-cells (c .cols .result) (b .width) (b .from) (b .height)) was before) ∙ unused .2,
-              )),
-          tt,
+          s .over,
+          (
+            s .beside,
+            (
+              (λ closed.
+                  let before : s .journal .trials ≡ 0 = sym (kept .0) ∙ closed in
+                  let unused = s .quiet before in (
+                    kept .2 ∙ unused .0,
+                    kept .3 ∙ unused .1,
+                    ap (λ (m : Logged-cells). m .spots .used) (c .set-block .ensures .cells)
+                        ∙ ap (λ (l : Lane Spot). l .used) (quiet-cells (s .journal .marks) (s .journal .trials) (change.Skip (c .args .skip)) (block-cells (c .cols .result) (b .width) (b .from) (b .height)) was before) ∙ unused .2,
+                  )),
+              tt,
+            ),
+          ),
         ),
       ),
     )
