@@ -1,6 +1,7 @@
 pub mod Cells
 pub mod Contexts
 pub mod Lanes
+pub mod Partitions
 pub mod Places
 pub mod Questions
 pub mod View

@@ -7,6 +7,7 @@ use journal::Mark;
 
 mod bytes;
 mod cells;
+mod partition;
 
 mod questions;
 mod rows;
