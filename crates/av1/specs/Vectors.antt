@@ -1,8 +1,9 @@
 -- Motion vectors: a component by its sign and magnitude, and a magnitude less one by its class and its offset there.
 use mathlib.Core.Bool.{cond}
+use mathlib.Core.Path.{_≡_}
 use Prim.Native.Nat.{ℕ, zero, suc, _-_, _*_, _^_}
 use lib.Dec.{ltb}
-use lib.IntN.{ℤ, pos, negsuc}
+use lib.IntN.{ℤ, pos, negsuc, negℤ}
 
 abbrev pub magnitude : ℤ → ℕ
 magnitude (pos n) = n
@@ -12,6 +13,14 @@ magnitude (negsuc n) = suc n
 abbrev pub sign-bit : ℤ → ℕ
 sign-bit (pos n) = 0
 sign-bit (negsuc n) = 1
+
+-- a component by its sign and magnitude
+abbrev pub joined : ℕ → ℕ → ℤ
+joined zero m = pos m
+joined (suc n) m = negℤ (pos m)
+
+abbrev pub Join-undoes-split : Type 0
+Join-undoes-split = (d : ℤ) → joined (sign-bit d) (magnitude d) ≡ d
 
 -- a component that is not zero, by its sign and its magnitude less one
 abbrev pub signed : ℕ → ℕ → ℤ
