@@ -5,6 +5,8 @@ use lib.Dec.{leb, eqb}
 use lib.IntN.{ℤ, pos, negsuc}
 use Rattle.std.specs.declared.option.Option.{Option}
 use Rattle.std.specs.declared.option.Option.the-variants.{Some, None}
+use Rattle.av1.specs.declared.cfl.CFLSign.{CFLSign}
+use Rattle.av1.specs.declared.cfl.CFLSign.the-variants.{«CFL_SIGN_ZERO», «CFL_SIGN_NEG», «CFL_SIGN_POS»}
 use Rattle.av1.specs.Vectors.{magnitude}
 
 -- 1 for a negative alpha, 2 for a positive one
@@ -12,6 +14,11 @@ abbrev pub sign-of : ℤ → ℕ
 sign-of (pos zero) = 0
 sign-of (pos (suc a)) = 2
 sign-of (negsuc a) = 1
+
+abbrev pub sign-number : CFLSign → ℕ
+sign-number «CFL_SIGN_ZERO» = 0
+sign-number «CFL_SIGN_NEG» = 1
+sign-number «CFL_SIGN_POS» = 2
 
 -- in -16..16, and not both zero
 abbrev pub alphas-allowed : ℤ × ℤ → Bool
