@@ -11,6 +11,7 @@ use lib.Pow.{pow-mono, pow-add}
 use Rattle.std.proofs.shelf.Bits.{shl-whole}
 use Rattle.av1.specs.Vectors.{class-base, class-from, class-of}
 
+-- the shift that gives a class its base drops no bit
 pub base-shifted : (c : ℕ) → (c ≡ 0 → ⊥) → c ≤ 10 → (2 * 2 ^ (c + 2)) % 4294967296 ≡ class-base c
 base-shifted zero n h = absurd (n refl)
 base-shifted (suc c) n h =
@@ -22,6 +23,7 @@ base-shifted (suc c) n h =
 abbrev pub Log : ℕ → ℕ → Type 0
 Log n l = (n ≡ 0 → l ≡ 0) × (0 < n → (2 ^ l ≤ n) × (n < 2 ^ suc l))
 
+-- what the leading zeros leave is the logarithm
 pub log-of : (n m : ℕ) → n < 2 ^ 32 → m ≡ min 31 (leadingZeros 32 n) → Log n (31 - m)
 log-of n m h e = (
   (λ z. let a : leadingZeros 32 n ≡ 32 = ap (λ k. leadingZeros 32 k) z ∙ leading-of-zero 32 in omega arith),
@@ -31,7 +33,7 @@ log-of n m h e = (
       (subst (λ k. 2 ^ k ≤ n) (sym q) (t .2), subst (λ k. n < 2 ^ suc k) (sym q) (t .3))),
 )
 
--- z lies in class l, the last of which has no end
+-- z lies in class l; class 10 has no end
 abbrev pub Class : ℕ → ℕ → Type 0
 Class z l = (l ≤ 10) × (class-base l ≤ z) × (l < 10 → z < 8 * 2 ^ suc l)
 
@@ -56,7 +58,7 @@ class-of-log z l h g = go (eq-zero-or-pos (z / 8))
     go (inl e) = subst (λ k. Class z k) (sym (g .0 e)) (omega arith, omega arith, λ _. omega arith)
     go (inr p) = log-class z l h (g .1 p .0) (g .1 p .1)
 
--- the search for a class that starts at c, at or before l, ends at l
+-- a search that starts at or before z's class ends there
 found : (n c z l : ℕ) → c ≤ l → l ≤ c + n → class-base l ≤ z → (l < c + n → z < 8 * 2 ^ suc l) → class-from n c z ≡ l
 found zero c z l h k low high = omega arith
 found (suc n) c z l h k low high = go (ltb z (8 * 2 ^ suc c)) (ltb→lt z (8 * 2 ^ suc c)) (nltb→le z (8 * 2 ^ suc c)) (λ o. found n (suc c) z l (omega arith) (omega arith) low (λ m. high (omega arith))) (eq-or-lt-of-le h)

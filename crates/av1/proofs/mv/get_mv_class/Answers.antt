@@ -1,6 +1,5 @@
 use mathlib.Core.Path.{_≡_, sym, ap, subst, _∙_}
 use Prim.Native.Nat.{ℕ, _-_}
-use native.Mathlib.Omega.{arith}
 use Rattle.av1.specs.Vectors.{class-base, class-of}
 use Rattle.av1.proofs.Classes.{Class, class-ten, class-of-log, class-is}
 use Rattle.av1.proofs.mv.get_mv_class.Needs as need
@@ -16,9 +15,6 @@ class c =
 
 pub mv-class-base-requires : need.mv-class-base-requires
 mv-class-base-requires c κs = class c .0
-
-pub sub-offset : need.sub-offset
-sub-offset c = let k = class (need.at·sub-offset c .Joined-z-ge8192) in omega (arith, c .mv-class-base .ensures)
 
 pub returns : need.returns
 returns c =
