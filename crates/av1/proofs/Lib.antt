@@ -1,2 +1,3 @@
+mod Classes
 mod Placing
 pub mod Segments

@@ -1,5 +1,6 @@
 -- Block sizes: their sides in pixels and in units of 4 pixels, the context bytes that each leaves, and how sizes compare.
 use mathlib.Core.Bool.{Bool, _&&_}
+use mathlib.Core.List.{List, [], _∷_}
 use Prim.Native.Nat.{ℕ, _-_, _/_, _^_}
 use lib.Dec.{leb, eqb}
 use Rattle.av1.specs.declared.size.BlockSize.{BlockSize}
@@ -92,3 +93,10 @@ above-byte z = 32 - width-mi z
 
 abbrev pub left-byte : BlockSize → ℕ
 left-byte z = 32 - height-mi z
+
+abbrev pub context-bytes : BlockSize → List ℕ
+context-bytes z = above-byte z ∷ left-byte z ∷ []
+
+-- in the order of the standard's numbers
+abbrev pub all-sizes : List BlockSize
+all-sizes = «BLOCK_4X4» ∷ «BLOCK_4X8» ∷ «BLOCK_8X4» ∷ «BLOCK_8X8» ∷ «BLOCK_8X16» ∷ «BLOCK_16X8» ∷ «BLOCK_16X16» ∷ «BLOCK_16X32» ∷ «BLOCK_32X16» ∷ «BLOCK_32X32» ∷ «BLOCK_32X64» ∷ «BLOCK_64X32» ∷ «BLOCK_64X64» ∷ «BLOCK_64X128» ∷ «BLOCK_128X64» ∷ «BLOCK_128X128» ∷ «BLOCK_4X16» ∷ «BLOCK_16X4» ∷ «BLOCK_8X32» ∷ «BLOCK_32X8» ∷ «BLOCK_16X64» ∷ «BLOCK_64X16» ∷ []

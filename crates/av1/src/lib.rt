@@ -1,10 +1,13 @@
-//! The AV1 standard's vocabulary: block sizes, vector precisions, the tile with its cells and their neighbours, and the refusals of every call.
+//! The AV1 standard's vocabulary: block sizes, partitions, chroma alphas, vector components, the tile with its cells and their neighbours, and the refusals of every call.
+pub mod cfl;
 pub mod mv;
 pub mod partition;
 pub mod refusal;
 pub mod size;
 pub mod tile;
 
+pub use crate::cfl::CFLParams;
+pub use crate::cfl::CFLSign;
 pub use crate::mv::MvSubpelPrecision;
 pub use crate::partition::PartitionType;
 pub use crate::refusal::Refusal;

@@ -1,6 +1,7 @@
+ghost use mathlib.Core.List.{map};
 ghost use mathlib.Core.Path.{_≡_};
 ghost use Prim.Native.Nat.{_<_, _≤_};
-ghost use Rattle.av1.specs.Sizes.{width-log2, height-log2, width, height, width-mi, height-mi, square, fits-in, no-side-above, splits};
+ghost use Rattle.av1.specs.Sizes.{width-log2, height-log2, width, height, width-mi, height-mi, square, fits-in, no-side-above, splits, above-byte, left-byte, context-bytes, all-sizes};
 
 /// The sizes of a block, in the order of the standard's numbers.
 #[derive(Clone, Copy)]
@@ -27,6 +28,39 @@ pub enum BlockSize {
     BLOCK_32X8,
     BLOCK_16X64,
     BLOCK_64X16,
+}
+
+// The context bytes of each size, above and left: a set bit j says that the side is below 8 × 2^j pixels.
+const partition_context_lookup: [[u8; 2]; 22] = [
+    [31, 31],
+    [31, 30],
+    [30, 31],
+    [30, 30],
+    [30, 28],
+    [28, 30],
+    [28, 28],
+    [28, 24],
+    [24, 28],
+    [24, 24],
+    [24, 16],
+    [16, 24],
+    [16, 16],
+    [16, 0],
+    [0, 16],
+    [0, 0],
+    [31, 28],
+    [28, 31],
+    [30, 24],
+    [24, 30],
+    [28, 16],
+    [16, 28],
+];
+
+/// The whole table is the rule of the bytes, at every size in order.
+pub fn lookup_follows_the_rule() -> u8
+    ensures { λ _. do ⌜ (← ⟦partition_context_lookup⟧ .entry) ≡ map context-bytes all-sizes ⌝ }
+{
+    0
 }
 
 impl BlockSize {
@@ -138,5 +172,13 @@ impl BlockSize {
     {
         let width = self.width();
         self.is_sqr() && 8 <= width && width <= largest
+    }
+
+    /// The bytes that the block leaves in the contexts above and left.
+    pub fn context_bytes(self) -> (u8, u8)
+        ensures { λ r. ⌜ r ≡ (above-byte self, left-byte self) ⌝ }
+    {
+        let bytes = partition_context_lookup[self as usize];
+        (bytes[0], bytes[1])
     }
 }

@@ -6,8 +6,10 @@ use Prim.Native.Nat.{ℕ, zero, suc, _+_, _-_, _*_, _/_, _%_, _<_, _≤_}
 use native.Mathlib.Omega.{arith}
 use lib.Dec.{T, leb, leb→le, eqb}
 use lib.IntN.{ℤ, pos, negsuc}
+use Rattle.av1.specs.Alphas.{alphas-allowed}
+use Rattle.av1.specs.Vectors.{magnitude}
 use Rattle.cdf.proofs.Booleans.{and-first, and-second}
-use Rattle.model.specs.Alphas.{alphas-allowed, alphas-path, alphas-tree, magnitude}
+use Rattle.model.specs.Alphas.{alphas-path, alphas-tree}
 use Rattle.model.specs.Tree.{Leads}
 
 leads : (u v : ℤ) → magnitude u ≤ 16 → magnitude v ≤ 16 → T (not (eqb (magnitude u) 0 && eqb (magnitude v) 0)) → Leads alphas-tree (alphas-path (u, v)) (u, v)

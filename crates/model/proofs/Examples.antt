@@ -10,12 +10,12 @@ use Rattle.std.proofs.shelf.Lists.{length-replicate}
 use Rattle.av1.specs.declared.refusal.Refusal.the-variants as no
 use Rattle.av1.specs.Sides.{side}
 use Rattle.av1.specs.Tiles.{no-cell}
+use Rattle.av1.specs.Vectors.{class-of}
 use Rattle.cdf.proofs.Booleans.{and-first, and-second, T→true}
 use Rattle.cdf.specs.Layout.{Sound-words, fillers, large-tables, lawful, small-tables, tables}
 use Rattle.cdf.specs.Start.{start-words}
 use Rattle.model.proofs.Standing.{or-else-first, or-else-second, unless-true}
 use Rattle.model.specs.Runs.{unless}
-use Rattle.model.specs.Vector.{class-of}
 use Rattle.model.specs.Worked.{Starts-sound, Worked, start}
 
 -- The worked examples hold, and a start is sound.

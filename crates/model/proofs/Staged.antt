@@ -18,6 +18,7 @@ use Rattle.model.specs.declared.Question.{Question}
 use Rattle.model.specs.declared.Question.the-variants as of
 use Rattle.av1.specs.declared.refusal.Refusal.{Refusal}
 use Rattle.av1.specs.declared.refusal.Refusal.the-variants as no
+use Rattle.av1.specs.Alphas.{alphas-allowed}
 use Rattle.av1.proofs.Segments.{segment-back}
 use Rattle.av1.specs.Segments.{deinterleaved, interleaved}
 use Rattle.std.proofs.shelf.Tests.{cond-true}
@@ -34,7 +35,6 @@ use Rattle.model.proofs.Standing.{no-trace, none-passed, or-else-first, or-els
 use Rattle.model.proofs.Trails.{each-any, taken-back, taken-on, unwound-cross, unwound-past, unwound-sound}
 use Rattle.model.proofs.TreeTables.{trees-in-layout}
 use Rattle.model.proofs.Vectors.{vector-leads}
-use Rattle.model.specs.Alphas.{alphas-allowed}
 use Rattle.model.specs.Coders.{after, edge, whole}
 use Rattle.model.specs.Decisions.{above-length, left-length, Decision, HORZ, In-large, In-small, SPLIT, Sound, State, Tables-in, VERT, add-if, allowed, decided, flag-read, flag-symbol, has-columns, has-rows, large-of, old-spot, old-spots, partition-allowed, partition-path, partition-tree, path, placed, prediction, put-at, put-back, put-spot, put-spots, segment-decided, segment-number, segment-path, segment-tree, skip-context, small-of, spots, stage, table-at, takes, tree, units, window-at, with-words}
 use Rattle.model.specs.Runs.{Laws, No-trace, None-passed, Reads-record, Standing, Taken, Tells-runs-apart, asked, unless, unwound}

@@ -23,6 +23,7 @@ use Rattle.av1.specs.declared.refusal.Refusal.the-variants as no
 use Rattle.av1.specs.Segments.{deinterleaved, same, negative, prev, segment-context}
 use Rattle.av1.specs.Tiles.{flag-of}
 use Rattle.av1.specs.Sizes.{level, splits}
+use Rattle.av1.specs.Vectors.{class-base, signed}
 use Rattle.cdf.proofs.Ranges.{true-below}
 use Rattle.cdf.specs.Layout.{row-base, col-base, table-sizes, in-layout, large-tables, small-tables, tables}
 use Rattle.cdf.specs.Words.{Table, table}
@@ -31,7 +32,7 @@ use Rattle.model.specs.Alphas.{alpha-tree, alphas-tree}
 use Rattle.model.specs.Coders.{edge, whole}
 use Rattle.model.specs.Decisions.{left-place, longest, State, Tables-in, Trees-in-layout, above-left-of, above-of, bit, context, has-columns, has-rows, left-of, partition-table, partition-tree, prediction, segment-number, segment-tree, skip-context, table-at}
 use Rattle.model.specs.Tree.{Syntax, and-then, coded, done, never, one, read-by}
-use Rattle.model.specs.Vector.{bits-tree, class-base, component-if, component-tree, fraction-tree, has-col, has-row, high-tree, integer-tree, signed, vector-tree}
+use Rattle.model.specs.Vector.{bits-tree, component-if, component-tree, fraction-tree, has-col, has-row, high-tree, integer-tree, vector-tree}
 
 abbrev At : ℕ → ℕ → Type 0
 At f n = in-layout (table f n) ≡ true

@@ -10,12 +10,12 @@ use mathlib.Core.Bool.{not, _&&_}
 use lib.IntN.{ℤ, pos, negsuc}
 use Rattle.av1.specs.declared.mv.MvSubpelPrecision.{MvSubpelPrecision}
 use Rattle.av1.specs.declared.mv.MvSubpelPrecision.the-variants as at
+use Rattle.av1.specs.Vectors.{class-base, class-from, class-of, magnitude, nonzero, signed}
 use Rattle.cdf.proofs.Booleans.{and-first, and-second}
 use Rattle.model.proofs.Trees.{leads-by, leads-then}
-use Rattle.model.specs.Alphas.{magnitude}
 use Rattle.model.specs.Coders.{whole}
 use Rattle.model.specs.Tree.{Leads, and-then, read-by}
-use Rattle.model.specs.Vector.{Component-leads, Fits, bits-of, bits-tree, class-base, class-from, class-of, component-if, component-tree, fits-precision, fraction-path, fraction-tree, has-col, has-row, high-path, high-tree, in-range, integer-path, integer-tree, nonzero, path-if, signed, step-of, vector-path, vector-tree}
+use Rattle.model.specs.Vector.{Component-leads, Fits, bits-of, bits-tree, component-if, component-tree, fits-precision, fraction-path, fraction-tree, has-col, has-row, high-path, high-tree, in-range, integer-path, integer-tree, path-if, step-of, vector-path, vector-tree}
 
 -- A component's symbols lead to it.
 leads-bits : (n f v : ℕ) → v < 2 ^ n → Leads (bits-tree f n) (bits-of n v) v

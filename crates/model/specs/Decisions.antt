@@ -20,6 +20,7 @@ use Rattle.model.specs.declared.Question.{Question}
 use Rattle.model.specs.declared.Question.the-variants as of
 use Rattle.av1.specs.declared.refusal.Refusal.{Refusal}
 use Rattle.av1.specs.declared.refusal.Refusal.the-variants as no
+use Rattle.av1.specs.Alphas.{alphas-allowed}
 use Rattle.av1.specs.Segments.{prev, natural, segment-context, segment-prediction, interleaved, deinterleaved}
 use Rattle.av1.specs.Sides.{side}
 use Rattle.av1.specs.Sizes.{width, height, width-mi, height-mi, above-byte, left-byte, level, splits, no-side-above, fits-in}
@@ -31,7 +32,7 @@ use Rattle.cdf.specs.Windows.{window, taken-window, put-window, small-place, la
 use Rattle.cdf.specs.Words.{Words, Table, table}
 use Rattle.model.specs.Coders.{Coder, whole, edge, symbols, after}
 use Rattle.model.specs.Tree.{Syntax, done, never, coded, one, read-by, written}
-use Rattle.model.specs.Alphas.{alphas-tree, alphas-path, alphas-allowed}
+use Rattle.model.specs.Alphas.{alphas-tree, alphas-path}
 use Rattle.model.specs.Vector.{vector-tree, vector-path, in-range, fits-precision}
 use Rattle.model.specs.Subject.{Subject, Trail}
 use Rattle.model.specs.Runs.{or-else, unless}

@@ -1,14 +1,14 @@
 -- Vectors as trees of symbols: the joint, then the row and the column where they are not zero.
 use mathlib.Core.Path.{_≡_}
-use mathlib.Core.Bool.{Bool, true, false, cond, _&&_, _||_, not}
+use mathlib.Core.Bool.{Bool, true, false, _&&_, _||_}
 use mathlib.Core.List.{List, [], _∷_, _++_}
-use Prim.Native.Nat.{ℕ, zero, suc, _+_, _-_, _*_, _/_, _%_, _^_, _<_, _≤_}
-use lib.Dec.{ltb, leb, eqb}
+use Prim.Native.Nat.{ℕ, zero, suc, _+_, _*_, _/_, _%_, _<_}
+use lib.Dec.{leb, eqb}
 use lib.IntN.{ℤ, pos, negsuc}
 use Rattle.av1.specs.declared.mv.MvSubpelPrecision.{MvSubpelPrecision}
 use Rattle.av1.specs.declared.mv.MvSubpelPrecision.the-variants as at
-use Rattle.model.specs.Tree.{Syntax, done, never, coded, and-then, read-by, one, Leads}
-use Rattle.model.specs.Alphas.{magnitude}
+use Rattle.av1.specs.Vectors.{magnitude, nonzero, signed, class-base, class-of, offset-of}
+use Rattle.model.specs.Tree.{Syntax, done, and-then, read-by, one, Leads}
 
 -- bits, lowest first, each by a table of its own
 abbrev pub bits-tree : ℕ → ℕ → Syntax ℕ
@@ -18,10 +18,6 @@ bits-tree f (suc n) = and-then (one f 2) (λ b. read-by (λ r. b + 2 * r) (bits-
 abbrev pub bits-of : ℕ → ℕ → List ℕ
 bits-of zero v = []
 bits-of (suc n) v = v % 2 ∷ bits-of n (v / 2)
-
-abbrev pub class-base : ℕ → ℕ
-class-base zero = 0
-class-base (suc c) = 8 * 2 ^ suc c
 
 abbrev pub integer-tree : ℕ → ℕ → Syntax ℕ
 integer-tree b zero = one (b + 6) 2
@@ -54,10 +50,6 @@ high-path at.«MV_SUBPEL_NONE» h = []
 high-path at.«MV_SUBPEL_LOW_PRECISION» h = []
 high-path at.«MV_SUBPEL_HIGH_PRECISION» h = h ∷ []
 
-abbrev pub signed : ℕ → ℕ → ℤ
-signed zero m = pos (suc m)
-signed (suc n) m = negsuc m
-
 abbrev pub component-tree : ℕ → MvSubpelPrecision → Syntax ℤ
 component-tree b p =
     and-then (one b 2) (λ sign.
@@ -65,17 +57,6 @@ component-tree b p =
     and-then (integer-tree b c) (λ d.
     and-then (fraction-tree b p c d) (λ f.
     read-by (λ h. signed sign (class-base c + (8 * d + 2 * f + h))) (high-tree b p c)))))
-
--- the class of a magnitude less one: from class c on, with so many left to try
-abbrev pub class-from : ℕ → ℕ → ℕ → ℕ
-class-from zero c z = c
-class-from (suc n) c z = cond (ltb z (8 * 2 ^ suc c)) c (class-from n (suc c) z)
-
-unfoldable pub class-of : ℕ → ℕ
-class-of z = class-from 10 0 z
-
-abbrev pub offset-of : ℕ → ℕ
-offset-of z = z - class-base (class-of z)
 
 abbrev pub component-path : MvSubpelPrecision → ℕ → ℕ → List ℕ
 component-path p sign z =
@@ -107,11 +88,6 @@ vector-tree p =
     and-then (one 302 4) (λ j.
     and-then (component-if (has-row j) 318 p) (λ row.
     read-by (λ col. (row, col)) (component-if (has-col j) 374 p)))
-
-abbrev pub nonzero : ℤ → ℕ
-nonzero (pos zero) = 0
-nonzero (pos (suc n)) = 1
-nonzero (negsuc n) = 1
 
 abbrev pub path-if : MvSubpelPrecision → ℤ → List ℕ
 path-if p (pos zero) = []
