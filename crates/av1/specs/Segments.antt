@@ -1,6 +1,7 @@
 -- Segments: the prediction and the table's number from up to three neighbours, and how a segment's number is coded near
 -- its prediction.
 use mathlib.Core.Bool.{Bool, false, true, cond, _&&_, _||_}
+use mathlib.Core.List.{List}
 use mathlib.Core.Path.{_≡_}
 use Prim.Native.Nat.{ℕ, _+_, _-_, _*_, _/_, _%_, _<_}
 use lib.Dec.{ltb, leb, eqb}
@@ -8,6 +9,7 @@ use lib.IntN.{ℤ, pos, negsuc}
 use Rattle.std.specs.declared.option.Option.{Option}
 use Rattle.std.specs.declared.option.Option.the-variants.{Some, None}
 use Rattle.av1.specs.declared.tile.Cell.{Cell}
+use Rattle.av1.specs.Tiles.{above-left-of, above-of, left-of}
 
 -- a neighbour's segment, as the standard has it: -1 for an absent one
 abbrev pub prev : Option Cell → ℤ
@@ -41,6 +43,11 @@ segment-prediction ul u l =
     cond (negative u) (cond (negative l) (pos 0) l)
     (cond (negative l) u
     (cond (same ul u) u l))
+
+-- either of them, from the neighbours of a unit
+abbrev pub near-segments : {A : Type 0} → ℕ → ℕ → List Cell → (ℤ → ℤ → ℤ → A) → ℕ → ℕ → A
+near-segments columns rows cells f x y =
+    f (prev (above-left-of columns rows cells x y)) (prev (above-of columns rows cells x y)) (prev (left-of columns rows cells x y))
 
 -- the distance from r, even for r and below, odd above
 abbrev pub zigzag : ℕ → ℕ → ℕ
