@@ -2,12 +2,15 @@
 pub mod mv;
 pub mod partition;
 pub mod refusal;
+pub mod segment;
 pub mod size;
 pub mod tile;
 
 pub use crate::mv::MvSubpelPrecision;
 pub use crate::partition::PartitionType;
 pub use crate::refusal::Refusal;
+pub use crate::segment::neg_deinterleave;
+pub use crate::segment::neg_interleave;
 pub use crate::size::BlockSize;
 pub use crate::tile::Block;
 pub use crate::tile::Cell;
