@@ -1,3 +1,4 @@
+mod Blocks
 mod Calls
 mod Cells
 mod Skips

@@ -137,8 +137,8 @@ returns g c =
     record {
       step = step;
       cells = λ ok.
-          flag-set (length map) (k .rooms (c .args .sink .now)) from (world s map (lanes (c .args .log .now)) (k .list (c .args .sink .now))) _ (s .tile) map after
-          (c .args .x) (c .args .y) (c .args .bsize) (c .args .skip) refl step refl refl refl
+          flag-set (length map) (k .rooms (c .args .sink .now)) (world s map (lanes (c .args .log .now)) (k .list (c .args .sink .now))) _ (s .tile) map after
+          (c .args .x) (c .args .y) (c .args .bsize) (c .args .skip) step refl refl refl
           (ap (λ (t : Tile). take (t .cols * t .rows) after) (c .symbol .ensures .tile)) (c .in-Continue-block .ensures tt .mapped)
           (asked-block (s .tile .cols) (s .tile .rows) (length map) 64 (c .args .x) (c .args .y) (c .args .bsize) (c .in-Continue-block .block) (c .in-Continue-block .ensures tt .answer) .0);
       behind =
