@@ -6,6 +6,7 @@ use journal::Mark;
 
 mod cells;
 mod questions;
+mod segment;
 mod skip;
 mod start;
 mod symbols;
