@@ -1,5 +1,5 @@
 -- A decision that sets the cells of its block: its questions, the world after it, and what becomes of the map.
-use mathlib.Core.Path.{_≡_, refl, sym, ap, ap₂, subst, _∙_}
+use mathlib.Core.Path.{_≡_, sym, ap, ap₂, subst, _∙_}
 use mathlib.Core.Bool.{true, cond}
 use mathlib.Core.List.{List, map}
 use mathlib.Core.Option.{Option}

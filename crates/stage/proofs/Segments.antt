@@ -1,11 +1,11 @@
 -- A segment decision of the stage is the model's.
 use mathlib.Core.Path.{_≡_, refl, sym, ap, ap₂, _∙_}
 use mathlib.Core.Bool.{Bool, true, false, cond, not, _||_}
-use mathlib.Core.List.{List, [], _∷_, map}
-use mathlib.Core.Option.{Option, none, some}
+use mathlib.Core.List.{List, [], map}
+use mathlib.Core.Option.{none, some}
 use Prim.Native.Nat.{ℕ, suc, _+_, _*_, _<_, _≤_, min}
 use native.Mathlib.Omega.{arith}
-use lib.Dec.{T, leb, ltb, leb→le, le→leb, lt→ltb}
+use lib.Dec.{leb, ltb, leb→le, le→leb, lt→ltb}
 use lib.ListN.{getD, length, take}
 use mir.Val.{boolByte}
 use Rattle.std.specs.declared.option.Option.the-variants.{Some, None}
@@ -119,14 +119,15 @@ allowed-above true id last h l = absurd (true→T false (sym h))
 allowed-above false id last h l = ap (λ b. unless b no.Segment) (not-T→false (leb id last) (λ t. let k : id ≤ last = leb→le id last t in omega arith))
 
 module _ (memory : ℕ) (room : List Entry → ℕ) (s : State) (j : Journal) (l : Lent stage) (es : List Entry) (x y : ℕ) (z : BlockSize) (skip : Bool) (id : ℕ) where
-  abbrev n : ℕ
-  n = boolByte (not skip)
+  -- how many symbols
+  abbrev count : ℕ
+  count = boolByte (not skip)
 
   segment-refusal : refusal stage memory room (world-at s j l es) (ask (question.Segment x y z skip) id)
       ≡ or-else (refused-by (block-asked (s .columns) (s .rows) memory 64 x y z))
-      (or-else (unless (skip || leb id (s .last)) no.Segment) (refused-by (record-asked j l (room es) n (need 0 n (area (block-at (s .columns) (s .rows) x y z))))))
+      (or-else (unless (skip || leb id (s .last)) no.Segment) (refused-by (record-asked j l (room es) count (need 0 count (area (block-at (s .columns) (s .rows) x y z))))))
   segment-refusal =
-      set-refusal memory room s j l es x y z (question.Segment x y z skip) id n 0 n refl refl refl (path-length skip (s .last) near d)
+      set-refusal memory room s j l es x y z (question.Segment x y z skip) id count 0 count refl refl refl (path-length skip (s .last) near d)
       (small-length skip (s .words) number (s .last) near d) (large-length skip (s .words) number (s .last) near d) (block-spots v v x y z (segment-spot v d))
     where
       near : ℕ
@@ -146,21 +147,21 @@ module _ (memory : ℕ) (room : List Entry → ℕ) (s : State) (j : Journal) (l
   refused-block e h =
       refused-segment memory room x y z skip id (world-at s j l es) e
       (segment-refusal
-      ∙ ap (λ r. or-else (refused-by r) (or-else (unless (skip || leb id (s .last)) no.Segment) (refused-by (record-asked j l (room es) n (need 0 n (area (block-at (s .columns) (s .rows) x y z))))))) (sym h))
+      ∙ ap (λ r. or-else (refused-by r) (or-else (unless (skip || leb id (s .last)) no.Segment) (refused-by (record-asked j l (room es) count (need 0 count (area (block-at (s .columns) (s .rows) x y z))))))) (sym h))
 
   -- the questions that are left once the block is accepted
   asked-segment : (b : Block) (r : ℕ) → Ok b ≡ block-asked (s .columns) (s .rows) memory 64 x y z → r ≡ room es
-      → refusal stage memory room (world-at s j l es) (ask (question.Segment x y z skip) id) ≡ or-else (unless (skip || leb id (s .last)) no.Segment) (refused-by (record-asked j l r n (need 0 n (area b))))
-  asked-segment b r h same = segment-refusal ∙ asked-rest memory room s j l es x y z (unless (skip || leb id (s .last)) no.Segment) n 0 n r b h same
+      → refusal stage memory room (world-at s j l es) (ask (question.Segment x y z skip) id) ≡ or-else (unless (skip || leb id (s .last)) no.Segment) (refused-by (record-asked j l r count (need 0 count (area b))))
+  asked-segment b r h same = segment-refusal ∙ asked-rest memory room s j l es x y z (unless (skip || leb id (s .last)) no.Segment) count 0 count r b h same
 
   pub refused-number : (b : Block) → Ok b ≡ block-asked (s .columns) (s .rows) memory 64 x y z → skip ≡ false → s .last < id
       → (Err no.Segment, world-at s j l es) ≡ segment-step memory room x y z skip id (world-at s j l es)
   refused-number b h unskipped above =
       refused-segment memory room x y z skip id (world-at s j l es) no.Segment
-      (asked-segment b (room es) h refl ∙ ap (λ o. or-else o (refused-by (record-asked j l (room es) n (need 0 n (area b))))) (allowed-above skip id (s .last) unskipped above))
+      (asked-segment b (room es) h refl ∙ ap (λ o. or-else o (refused-by (record-asked j l (room es) count (need 0 count (area b))))) (allowed-above skip id (s .last) unskipped above))
 
   pub refused-record : (b : Block) (r : ℕ) (e : Refusal) → Ok b ≡ block-asked (s .columns) (s .rows) memory 64 x y z → (skip ≡ false → id ≤ s .last) → r ≡ room es
-      → Err e ≡ record-asked j l r n (need 0 n (area b))
+      → Err e ≡ record-asked j l r count (need 0 count (area b))
       → (Err e, world-at s j l es) ≡ segment-step memory room x y z skip id (world-at s j l es)
   refused-record b r e h active same refused =
       refused-segment memory room x y z skip id (world-at s j l es) e
@@ -170,13 +171,13 @@ module _ (memory : ℕ) (room : List Entry → ℕ) (s : State) (j : Journal) (l
   pub accepted : (s′ : State) (j′ j″ : Journal) (l′ l″ : Lent stage) (es′ : List Entry) (part cells after : List Cell) (number near d columns r : ℕ) (b : Block) (u : Unit {0})
       → s′ .columns ≡ s .columns → s′ .rows ≡ s .rows → number ≡ segment-number s x y → near ≡ prediction s x y → d ≡ segment-decided skip near id
       → world-at s′ j′ l′ es′ ≡ symbol-steps (segment-tree skip number (s .last) near) (segment-path skip (s .last) near d) (world-at s j l es)
-      → Ok b ≡ block-asked (s .columns) (s .rows) memory 64 x y z → (skip ≡ false → id ≤ s .last) → r ≡ room es → Ok u ≡ record-asked j l r n (need 0 n (area b))
+      → Ok b ≡ block-asked (s .columns) (s .rows) memory 64 x y z → (skip ≡ false → id ≤ s .last) → r ≡ room es → Ok u ≡ record-asked j l r count (need 0 count (area b))
       → columns ≡ s′ .columns → part ≡ s′ .cells → after ≡ cells
       → logged-cells cells (l″ .spots) (j″ .spots) ≡ change-each (marks-of (j′ .marks) (j′ .trials)) (change.Segment d) (block-cells columns (b .width) (b .from) (b .height)) (logged-cells part (l′ .spots) (j′ .spots))
       → l″ .small ≡ l′ .small → l″ .large ≡ l′ .large → j″ .trials ≡ j′ .trials → j″ .marks ≡ j′ .marks → j″ .small ≡ j′ .small → j″ .large ≡ j′ .large
-      → (Ok (n, d), world-at (with-cells s′ after) j″ l″ es′) ≡ segment-step memory room x y z skip id (world-at s j l es)
+      → (Ok (count, d), world-at (with-cells s′ after) j″ l″ es′) ≡ segment-step memory room x y z skip id (world-at s j l es)
   accepted s′ j′ j″ l′ l″ es′ part cells after number near d columns r b u wide high table-number foretold set coded block active same recorded across own whole-map changes a c trials marks small large =
-      accepted-segment memory room x y z skip id (world-at s j l es) (world-at (with-cells s′ after) j″ l″ es′) (n, d)
+      accepted-segment memory room x y z skip id (world-at s j l es) (world-at (with-cells s′ after) j″ l″ es′) (count, d)
       (asked-segment b r block same ∙ ap₂ (λ o k. or-else o (refused-by k)) (allowed-active skip id (s .last) active) (sym recorded)) (
         ap₂ (λ m k. (m, k)) (sent-length skip (s .words) (segment-number s x y) (s .last) (prediction s x y) (segment-decided skip (prediction s x y) id)) (sym meant),
         block-after (question.Segment x y z skip) (segment-decided skip (prediction s x y) id) (change.Segment d) memory s s′ j j′ j″ l l′ l″ es es′ x y z part cells after columns b
