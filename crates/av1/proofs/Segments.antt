@@ -4,7 +4,8 @@ use mathlib.Core.Bool.{Bool, true, false, cond, not}
 use Prim.Native.Nat.{ℕ, zero, suc, _+_, _-_, _*_, _/_, _%_, _<_, _≤_}
 use native.Mathlib.Omega.{arith}
 use lib.Dec.{T, ltb, leb, eqb, ltb→lt, nltb→le, leb→le, nleb→lt, eqb→eq, le→leb, eqb-refl, T-not}
-use Rattle.av1.specs.Segments.{Segment-back, Segment-within, deinterleaved, interleaved, zigzag-back, zigzag}
+use lib.IntN.{ℤ, pos, negsuc, subℕ}
+use Rattle.av1.specs.Segments.{Segment-back, Segment-within, Segment-exact, deinterleaved, deinterleaved-int, interleaved, segment-of, zigzag-back, zigzag-back-int, zigzag}
 
 -- A segment's number is read back.
 -- a test splits a statement in two, and says what it found
@@ -117,3 +118,76 @@ segment-within d r m hd hr =
 
     near : ℕ
     near = cond (ltb (2 * r) m) fl-at fh-at
+
+-- over the integers: a difference is cut off at 0 exactly where it is negative
+sub-cut : (a b : ℕ) → b ≤ a → subℕ a b ≡ pos (a - b)
+sub-cut a b h = by-ltb a b (λ c. cond c (negsuc (b - suc a)) (pos (a - b)) ≡ pos (a - b)) (λ l. absurd (omega arith)) (λ l. refl)
+
+sub-negative : (m a b : ℕ) → a < b → segment-of m (subℕ a b) ≡ false
+sub-negative m a b h = by-ltb a b (λ c. segment-of m (cond c (negsuc (b - suc a)) (pos (a - b))) ≡ false) (λ l. refl) (λ l. absurd (omega arith))
+
+zigzag-whole : (d r : ℕ) → d ≤ 2 * r + 1 → zigzag-back-int d r ≡ pos (zigzag-back d r)
+zigzag-whole d r h =
+    by-eqb (d % 2) 1 (λ c. cond c (pos (r + (d + 1) / 2)) (subℕ r (d / 2)) ≡ pos (cond c (r + (d + 1) / 2) (r - d / 2)))
+    (λ e. refl) (λ e. sub-cut r (d / 2) (omega arith))
+
+exact-below : (d r m : ℕ) → r < m → d < m → deinterleaved-int d r m ≡ pos (deinterleaved d r m)
+exact-below d r m hr hd =
+    by-eqb r 0 (λ a. cond a (pos d) rest-int ≡ pos (cond a d rest)) (λ e. refl) (λ e.
+    by-leb m (r + 1) (λ b. cond b (subℕ m (d + 1)) near-int ≡ pos rest)
+    (λ h. by-leb (m - 1) r (λ b. subℕ m (d + 1) ≡ pos (cond b (m - d - 1) near)) (λ k. sub-cut m (d + 1) (omega arith) ∙ ap pos (omega arith)) (λ k. absurd (omega arith)))
+    (λ h. by-leb (m - 1) r (λ b. near-int ≡ pos (cond b (m - d - 1) near)) (λ k. absurd (omega arith)) (λ k.
+    by-ltb (2 * r) m (λ c. cond c low-int high-int ≡ pos (cond c low high))
+    (λ l. by-leb d (2 * r) (λ p. cond p (zigzag-back-int d r) (pos d) ≡ pos (cond p (zigzag-back d r) d)) (λ n. zigzag-whole d r (omega arith)) (λ n. refl))
+    (λ l. by-leb (d + 2 * (r + 1)) (2 * m) (λ p. cond p (zigzag-back-int d r) (subℕ m (d + 1)) ≡ pos high)
+    (λ n. by-leb d (2 * (m - r - 1)) (λ q. zigzag-back-int d r ≡ pos (cond q (zigzag-back d r) (m - (d + 1)))) (λ o. zigzag-whole d r (omega arith)) (λ o. absurd (omega arith)))
+    (λ n. by-leb d (2 * (m - r - 1)) (λ q. subℕ m (d + 1) ≡ pos (cond q (zigzag-back d r) (m - (d + 1)))) (λ o. absurd (omega arith)) (λ o. sub-cut m (d + 1) (omega arith)))))))
+  where
+    low : ℕ
+    low = cond (leb d (2 * r)) (zigzag-back d r) d
+
+    high : ℕ
+    high = cond (leb d (2 * (m - r - 1))) (zigzag-back d r) (m - (d + 1))
+
+    near : ℕ
+    near = cond (ltb (2 * r) m) low high
+
+    rest : ℕ
+    rest = cond (leb (m - 1) r) (m - d - 1) near
+
+    low-int : ℤ
+    low-int = cond (leb d (2 * r)) (zigzag-back-int d r) (pos d)
+
+    high-int : ℤ
+    high-int = cond (leb (d + 2 * (r + 1)) (2 * m)) (zigzag-back-int d r) (subℕ m (d + 1))
+
+    near-int : ℤ
+    near-int = cond (ltb (2 * r) m) low-int high-int
+
+    rest-int : ℤ
+    rest-int = cond (leb m (r + 1)) (subℕ m (d + 1)) near-int
+
+exact-above : (d r m : ℕ) → r < m → m ≤ d → segment-of m (deinterleaved-int d r m) ≡ false
+exact-above d r m hr hd =
+    by-eqb r 0 (λ a. segment-of m (cond a (pos d) (cond (leb m (r + 1)) (subℕ m (d + 1)) (cond (ltb (2 * r) m) low high))) ≡ false) (λ e. beyond) (λ e.
+    by-leb m (r + 1) (λ b. segment-of m (cond b (subℕ m (d + 1)) (cond (ltb (2 * r) m) low high)) ≡ false) (λ h. sub-negative m m (d + 1) (omega arith)) (λ h.
+    by-ltb (2 * r) m (λ c. segment-of m (cond c low high) ≡ false)
+    (λ l. by-leb d (2 * r) (λ p. segment-of m (cond p (zigzag-back-int d r) (pos d)) ≡ false) (λ n. absurd (omega arith)) (λ n. beyond))
+    (λ l. by-leb (d + 2 * (r + 1)) (2 * m) (λ p. segment-of m (cond p (zigzag-back-int d r) (subℕ m (d + 1))) ≡ false) (λ n. absurd (omega arith)) (λ n. sub-negative m m (d + 1) (omega arith)))))
+  where
+    low : ℤ
+    low = cond (leb d (2 * r)) (zigzag-back-int d r) (pos d)
+
+    high : ℤ
+    high = cond (leb (d + 2 * (r + 1)) (2 * m)) (zigzag-back-int d r) (subℕ m (d + 1))
+
+    beyond : ltb d m ≡ false
+    beyond = by-ltb d m (λ c. c ≡ false) (λ l. absurd (omega arith)) (λ l. refl)
+
+pub segment-exact : Segment-exact
+segment-exact d r m hr = (
+  by-ltb d m (λ c. segment-of m (deinterleaved-int d r m) ≡ c)
+      (λ h. ap (segment-of m) (exact-below d r m hr h) ∙ by-ltb (deinterleaved d r m) m (λ c. c ≡ true) (λ l. refl) (λ l. let n : deinterleaved d r m < m = segment-within d r m h hr in absurd (omega (arith, n, l))))
+      (λ h. exact-above d r m hr h),
+  λ h. exact-below d r m hr h,
+)

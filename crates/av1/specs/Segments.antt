@@ -1,13 +1,15 @@
 -- Segments: the prediction and the table's number from up to three neighbours, and how a segment's number is coded near
 -- its prediction.
 use mathlib.Core.Bool.{Bool, false, true, cond, _&&_, _||_}
+use mathlib.Core.List.{List}
 use mathlib.Core.Path.{_≡_}
 use Prim.Native.Nat.{ℕ, _+_, _-_, _*_, _/_, _%_, _<_}
 use lib.Dec.{ltb, leb, eqb}
-use lib.IntN.{ℤ, pos, negsuc}
+use lib.IntN.{ℤ, pos, negsuc, subℕ}
 use Rattle.std.specs.declared.option.Option.{Option}
 use Rattle.std.specs.declared.option.Option.the-variants.{Some, None}
 use Rattle.av1.specs.declared.tile.Cell.{Cell}
+use Rattle.av1.specs.Tiles.{above-left-of, above-of, left-of}
 
 -- a neighbour's segment, as the standard has it: -1 for an absent one
 abbrev pub prev : Option Cell → ℤ
@@ -42,6 +44,11 @@ segment-prediction ul u l =
     (cond (negative l) u
     (cond (same ul u) u l))
 
+-- either of them, from the neighbours of a unit
+abbrev pub near-segments : {A : Type 0} → ℕ → ℕ → List Cell → (ℤ → ℤ → ℤ → A) → ℕ → ℕ → A
+near-segments columns rows cells f x y =
+    f (prev (above-left-of columns rows cells x y)) (prev (above-of columns rows cells x y)) (prev (left-of columns rows cells x y))
+
 -- the distance from r, even for r and below, odd above
 abbrev pub zigzag : ℕ → ℕ → ℕ
 zigzag x r = cond (ltb r x) (2 * (x - r) - 1) (2 * (r - x))
@@ -70,3 +77,24 @@ Segment-back = (x r m : ℕ) → x < m → r < m → (deinterleaved (interleaved
 -- a symbol in range is read as a number in range
 abbrev pub Segment-within : Type 0
 Segment-within = (d r m : ℕ) → d < m → r < m → deinterleaved d r m < m
+
+-- the standard's inverse over the integers, where nothing is cut off at 0
+abbrev pub zigzag-back-int : ℕ → ℕ → ℤ
+zigzag-back-int d r = cond (eqb (d % 2) 1) (pos (r + (d + 1) / 2)) (subℕ r (d / 2))
+
+abbrev pub deinterleaved-int : ℕ → ℕ → ℕ → ℤ
+deinterleaved-int d r m =
+    cond (eqb r 0) (pos d)
+    (cond (leb m (r + 1)) (subℕ m (d + 1))
+    (cond (ltb (2 * r) m) (cond (leb d (2 * r)) (zigzag-back-int d r) (pos d)) (cond (leb (d + 2 * (r + 1)) (2 * m)) (zigzag-back-int d r) (subℕ m (d + 1)))))
+
+-- one of m segments
+abbrev pub segment-of : ℕ → ℤ → Bool
+segment-of m (pos n) = ltb n m
+segment-of m (negsuc n) = false
+
+-- the inverse gives one of the segments exactly for the symbols below their number, and there nothing is cut off
+abbrev pub Segment-exact : Type 0
+Segment-exact =
+    (d r m : ℕ) → r < m
+    → (segment-of m (deinterleaved-int d r m) ≡ ltb d m) × (d < m → deinterleaved-int d r m ≡ pos (deinterleaved d r m))

@@ -3,6 +3,7 @@ pub mod cfl;
 pub mod mv;
 pub mod partition;
 pub mod refusal;
+pub mod segment;
 pub mod size;
 pub mod tile;
 
@@ -11,6 +12,8 @@ pub use crate::cfl::CFLSign;
 pub use crate::mv::MvSubpelPrecision;
 pub use crate::partition::PartitionType;
 pub use crate::refusal::Refusal;
+pub use crate::segment::neg_deinterleave;
+pub use crate::segment::neg_interleave;
 pub use crate::size::BlockSize;
 pub use crate::tile::Block;
 pub use crate::tile::Cell;

@@ -77,6 +77,10 @@ steps-world D (coded (edge t ss) f) (s ∷ p) w =
     (ap (λ l. log-if (w .marks) l (small-of v (f s) p)) (log-none (w .marks) (w .small)))
     (ap (λ l. log-if (w .marks) l (large-of v (f s) p)) (log-none (w .marks) (w .large)))
 
+-- symbols change the words of a state alone
+pub symbols-state : (D : Type 0) (t : Syntax D) (p : List ℕ) (w : World stage) → symbol-steps t p w .core .state ≡ with-words (w .core .state) (written (w .core .state .words) t p .words)
+symbols-state D t p w = ap (λ (v : World stage). v .core .state) (steps-world D t p w)
+
 -- the world after spots
 abbrev set-world : World stage → List Spot → World stage
 set-world w ps =

@@ -52,7 +52,7 @@ partition-in-layout : (k : ℕ) → k < 12 → At (86 + 10 * k) 10
 unfolding in-layout table-sizes
 partition-in-layout = true-below 12 (λ k. in-layout (table (86 + 10 * k) 10)) tt
 
-segment-in-layout : (k : ℕ) → k < 3 → At (30 + 8 * k) 8
+pub segment-in-layout : (k : ℕ) → k < 3 → At (30 + 8 * k) 8
 unfolding in-layout table-sizes
 segment-in-layout = true-below 3 (λ k. in-layout (table (30 + 8 * k) 8)) tt
 

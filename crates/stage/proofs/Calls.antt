@@ -26,9 +26,9 @@ use Rattle.journal.specs.declared.Mark.{Mark}
 use Rattle.journal.specs.declared.Spot.{Spot}
 use Rattle.model.specs.declared.Question.{Question}
 use Rattle.model.specs.declared.Question.the-variants as question
-use Rattle.model.specs.Calls.{answer-by, decision-step, symbol-steps, spot-steps}
-use Rattle.model.specs.Decisions.{State, Decision, stage, with-words, tree, path, decided, spots, trail, old-spots, put-spot, block-cells, cells-of, skip-spot, asked-open}
-use Rattle.model.specs.Runs.{World, Lent, ask, refusal, answered, step, done-call, sent, or-else, unless, open-questions, lanes-asked}
+use Rattle.model.specs.Calls.{answer-by, decision-step, segment-step, symbol-steps, spot-steps}
+use Rattle.model.specs.Decisions.{State, Decision, stage, with-words, tree, path, decided, spots, trail, old-spots, put-spot, block-cells, cells-of, skip-spot, brings-map, placed, allowed, asked-open}
+use Rattle.model.specs.Runs.{World, Lent, ask, refusal, answered, done-call, sent, or-else, unless, map-asked-if, open-questions, lanes-asked}
 use Rattle.model.specs.Tree.{written}
 use Rattle.model.proofs.Stepping.{by-steps}
 use Rattle.stage.specs.declared.state.Journal.{Journal}
@@ -36,26 +36,39 @@ use Rattle.stage.specs.Questions.{Need, need, lanes-fit, record-asked, area}
 use Rattle.stage.specs.View.{marks-of, world-at, refused-by}
 
 module _ (memory : ℕ) (room : List Entry → ℕ) where
-  -- a refused call answers the refusal, and the world stays
-  pub refused-call : {A : Type 0} (q : Question) (d : Decision q) (a : A) (w : World stage) (e : Refusal) → refusal stage memory room w (ask q d) ≡ some e
-      → _≡_ {A = Result A Refusal × World stage} (Err e, w) (answer-by (refusal stage memory room w (ask q d)) a, step stage memory room w (ask q d) .world)
-  refused-call q d a w e h = sym (ap (λ o. (answer-by o a, answered stage w (ask q d) o .world)) h)
+  -- what a call answers where it is not refused, and the world after it
+  abbrev told-step : {A : Type 0} → A → (q : Question) → Decision q → World stage → Result A Refusal × World stage
+  told-step a q d w = (answer-by (refusal stage memory room w (ask q d)) a, answered stage w (ask q d) (refusal stage memory room w (ask q d)) .world)
 
-  -- an accepted call answers, and the world is that after its symbols and its spots
-  pub accepted-call : {A : Type 0} (q : Question) (d : Decision q) (a : A) (w v : World stage) → refusal stage memory room w (ask q d) ≡ none
+  -- a refused call answers the refusal, and the world stays
+  pub refused-told : {A : Type 0} (a : A) (q : Question) (d : Decision q) (w : World stage) (e : Refusal) → refusal stage memory room w (ask q d) ≡ some e → (Err e, w) ≡ told-step a q d w
+  refused-told a q d w e h = sym (ap (λ o. (answer-by o a, answered stage w (ask q d) o .world)) h)
+
+  -- the world of an accepted call is that after its symbols and its spots
+  pub accepted-told : {A : Type 0} (a b : A) (q : Question) (d : Decision q) (w v : World stage) → refusal stage memory room w (ask q d) ≡ none → a ≡ b
       → (let s : State = w .core .state in
       let e : Decision q = decided s q d in
       v ≡ spot-steps (spots (with-words s (written (s .words) (tree s q) (path s q e) .words)) q e) (symbol-steps (tree s q) (path s q e) w))
-      → _≡_ {A = Result A Refusal × World stage} (Ok a, v) (answer-by (refusal stage memory room w (ask q d)) a, step stage memory room w (ask q d) .world)
-  accepted-call q d a w v h after =
-      ap (λ u. (Ok a, u)) (after ∙ sym (by-steps w q d))
+      → (Ok b, v) ≡ told-step a q d w
+  accepted-told a b q d w v h same after =
+      ap₂ (λ k u. (Ok k, u)) (sym same) (after ∙ sym (by-steps w q d))
       ∙ sym (ap (λ o. (answer-by o a, answered stage w (ask q d) o .world)) h)
+
+  told-world : {A : Type 0} (a b : A) (q : Question) (d : Decision q) (w v : World stage) → (Ok b, v) ≡ told-step a q d w → v ≡ done-call stage w (ask q d)
+  told-world {A} a b q d w v h = go (refusal stage memory room w (ask q d)) h
+    where
+      go : (o : Option Refusal) → _≡_ {A = Result A Refusal × World stage} (Ok b, v) (answer-by o a, answered stage w (ask q d) o .world) → v ≡ done-call stage w (ask q d)
+      go none k = ap (λ p. p .1) k
+      go (some e) k = absurd (let r : _≡_ {A = Result A Refusal} (Ok b) (Err e) = ap (λ p. p .0) k in let z : _≡_ {A = ℕ} 0 1 = cc in let y : ⊥ = omega arith in y)
+
+  -- a decision that answers how many entries it wrote
+  abbrev sent-by : (q : Question) → Decision q → World stage → ℕ
+  sent-by q d w = length (sent stage (w .core .state) q (decided (w .core .state) q d) .entries)
 
   pub refused-step : (q : Question) (d : Decision q) (w : World stage) (e : Refusal) → refusal stage memory room w (ask q d) ≡ some e → (Err e, w) ≡ decision-step memory room q d w
   unfolding decision-step
-  refused-step q d w e h = refused-call q d (length (sent stage (w .core .state) q (decided (w .core .state) q d) .entries)) w e h
+  refused-step q d w e h = refused-told (sent-by q d w) q d w e h
 
-  -- a decision answers how many entries it wrote
   pub accepted-step : (q : Question) (d : Decision q) (w v : World stage) (n : ℕ) → refusal stage memory room w (ask q d) ≡ none
       → length (sent stage (w .core .state) q (decided (w .core .state) q d) .entries) ≡ n
       → (let s : State = w .core .state in
@@ -63,20 +76,35 @@ module _ (memory : ℕ) (room : List Entry → ℕ) where
       v ≡ spot-steps (spots (with-words s (written (s .words) (tree s q) (path s q e) .words)) q e) (symbol-steps (tree s q) (path s q e) w))
       → (Ok n, v) ≡ decision-step memory room q d w
   unfolding decision-step
-  accepted-step q d w v n h count after =
-      ap (λ k. (Ok k, v)) (sym count) ∙ accepted-call q d (length (sent stage (w .core .state) q (decided (w .core .state) q d) .entries)) w v h after
+  accepted-step q d w v n h count after = accepted-told (sent-by q d w) n q d w v h count after
 
-  -- where a call answers a count, the world is that after the call
   pub accepted-world : (q : Question) (d : Decision q) (w v : World stage) (n : ℕ) → (Ok n, v) ≡ decision-step memory room q d w → v ≡ done-call stage w (ask q d)
   unfolding decision-step
-  accepted-world q d w v n h = go (refusal stage memory room w (ask q d)) h
-    where
-      count : ℕ
-      count = length (sent stage (w .core .state) q (decided (w .core .state) q d) .entries)
+  accepted-world q d w v n h = told-world (sent-by q d w) n q d w v h
 
-      go : (o : Option Refusal) → _≡_ {A = Result ℕ Refusal × World stage} (Ok n, v) (answer-by o count, answered stage w (ask q d) o .world) → v ≡ done-call stage w (ask q d)
-      go none k = ap (λ p. p .1) k
-      go (some e) k = absurd (let r : _≡_ {A = Result ℕ Refusal} (Ok n) (Err e) = ap (λ p. p .0) k in let z : _≡_ {A = ℕ} 0 1 = cc in let y : ⊥ = omega arith in y)
+  -- a segment decision answers its number too
+  abbrev segment-told : (x y : ℕ) → BlockSize → Bool → ℕ → World stage → ℕ × ℕ
+  segment-told x y z skip id w = (sent-by (question.Segment x y z skip) id w, decided (w .core .state) (question.Segment x y z skip) id)
+
+  pub refused-segment : (x y : ℕ) (z : BlockSize) (skip : Bool) (id : ℕ) (w : World stage) (e : Refusal) → refusal stage memory room w (ask (question.Segment x y z skip) id) ≡ some e
+      → (Err e, w) ≡ segment-step memory room x y z skip id w
+  unfolding segment-step
+  refused-segment x y z skip id w e h = refused-told (segment-told x y z skip id w) (question.Segment x y z skip) id w e h
+
+  pub accepted-segment : (x y : ℕ) (z : BlockSize) (skip : Bool) (id : ℕ) (w v : World stage) (a : ℕ × ℕ) → refusal stage memory room w (ask (question.Segment x y z skip) id) ≡ none
+      → (let s : State = w .core .state in
+      let q : Question = question.Segment x y z skip in
+      let e : ℕ = decided s (question.Segment x y z skip) id in
+      ((length (sent stage s q e .entries), e) ≡ a)
+      × (v ≡ spot-steps (spots (with-words s (written (s .words) (tree s q) (path s q e) .words)) q e) (symbol-steps (tree s q) (path s q e) w)))
+      → (Ok a, v) ≡ segment-step memory room x y z skip id w
+  unfolding segment-step
+  accepted-segment x y z skip id w v a h after = accepted-told (segment-told x y z skip id w) a (question.Segment x y z skip) id w v h (after .0) (after .1)
+
+  pub segment-world : (x y : ℕ) (z : BlockSize) (skip : Bool) (id : ℕ) (w v : World stage) (a : ℕ × ℕ) → (Ok a, v) ≡ segment-step memory room x y z skip id w
+      → v ≡ done-call stage w (ask (question.Segment x y z skip) id)
+  unfolding segment-step
+  segment-world x y z skip id w v a h = told-world (segment-told x y z skip id w) a (question.Segment x y z skip) id w v h
 
 -- the questions on room and lanes
 refused-cond : (a b : Bool) (e f : Refusal) → or-else (unless a e) (unless b f) ≡ refused-by (cond a (cond b (Ok (tt {0})) (Err f)) (Err e))
@@ -157,25 +185,43 @@ block-refusal columns rows memory x y z longest o = go (leb (columns * rows) mem
     go true false d = refl
     go false c d = refl
 
--- all questions of a skip decision
+-- all questions of a decision that sets the cells of its block
+pub set-refusal : (memory : ℕ) (room : List Entry → ℕ) (s : State) (j : Journal) (l : Lent stage) (es : List Entry) (x y : ℕ) (z : BlockSize) (q : Question) (d : Decision q) (n a b : ℕ)
+    → brings-map q ≡ true → placed s q ≡ or-else (unless (no-side-above 64 z) no.BlockSize) (unless (tile.in-tile (s .columns) (s .rows) x y z) no.Position) → asked-open q ≡ none
+    → length (path s q (decided s q d)) ≡ n → length (trail s q (decided s q d) .small) ≡ a → length (trail s q (decided s q d) .large) ≡ b
+    → length (trail s q (decided s q d) .spots) ≡ area (block-at (s .columns) (s .rows) x y z)
+    → refusal stage memory room (world-at s j l es) (ask q d)
+    ≡ or-else (refused-by (block-asked (s .columns) (s .rows) memory 64 x y z))
+    (or-else (allowed s q d) (refused-by (record-asked j l (room es) n (need a b (area (block-at (s .columns) (s .rows) x y z))))))
+set-refusal memory room s j l es x y z q d n a b maps there quiet entries small large spots′ =
+    ap₂ (λ m p. or-else (map-asked-if stage m memory s) (or-else (or-else p (or-else (allowed s q d) few)) trials)) maps there
+    ∙ regroup (unless (leb (s .columns * s .rows) memory) no.MapMemory)
+    (or-else (unless (no-side-above 64 z) no.BlockSize) (unless (tile.in-tile (s .columns) (s .rows) x y z) no.Position))
+    (allowed s q d) few trials
+    ∙ block-refusal (s .columns) (s .rows) memory x y z 64 (or-else (allowed s q d) (or-else few trials))
+    ∙ ap (λ o. or-else (refused-by (block-asked (s .columns) (s .rows) memory 64 x y z)) (or-else (allowed s q d) o))
+    (record-refusal s j l es q (decided s q d) (room es) n a b (area (block-at (s .columns) (s .rows) x y z)) quiet entries small large spots′)
+  where
+    few : Option Refusal
+    few = unless (leb (length (path s q (decided s q d))) (room es)) no.Room
+
+    trials : Option Refusal
+    trials = open-questions stage (world-at s j l es) q (decided s q d) (marks-of (j .marks) (j .trials))
+
+    regroup : (a b c d e : Option Refusal) → or-else a (or-else (or-else b (or-else c d)) e) ≡ or-else a (or-else b (or-else c (or-else d e)))
+    regroup none none none d e = refl
+    regroup none none (some f) d e = refl
+    regroup none (some f) c d e = refl
+    regroup (some f) b c d e = refl
+
 pub skip-refusal : (memory : ℕ) (room : List Entry → ℕ) (s : State) (j : Journal) (l : Lent stage) (es : List Entry) (x y : ℕ) (z : BlockSize) (flag : Bool)
     → refusal stage memory room (world-at s j l es) (ask (question.Skip x y z) flag)
     ≡ or-else (refused-by (block-asked (s .columns) (s .rows) memory 64 x y z)) (refused-by (record-asked j l (room es) 1 (need 1 0 (area (block-at (s .columns) (s .rows) x y z)))))
 skip-refusal memory room s j l es x y z flag =
-    regroup (unless (leb (s .columns * s .rows) memory) no.MapMemory)
-    (or-else (unless (no-side-above 64 z) no.BlockSize) (unless (tile.in-tile (s .columns) (s .rows) x y z) no.Position))
-    (unless (leb 1 (room es)) no.Room) (open-questions stage (world-at s j l es) (question.Skip x y z) flag (marks-of (j .marks) (j .trials)))
-    ∙ block-refusal (s .columns) (s .rows) memory x y z 64 _
-    ∙ ap (or-else (refused-by (block-asked (s .columns) (s .rows) memory 64 x y z)))
-    (record-refusal s j l es (question.Skip x y z) flag (room es) 1 1 0 (area (block-at (s .columns) (s .rows) x y z)) refl refl refl refl (block-spots v v x y z (skip-spot v flag)))
+    set-refusal memory room s j l es x y z (question.Skip x y z) flag 1 1 0 refl refl refl refl refl refl (block-spots v v x y z (skip-spot v flag))
   where
     v : State
     v = with-words s (written (s .words) (tree s (question.Skip x y z)) (path s (question.Skip x y z) flag) .words)
-
-    regroup : (a b c d : Option Refusal) → or-else a (or-else (or-else b c) d) ≡ or-else a (or-else b (or-else c d))
-    regroup none none c d = refl
-    regroup none (some e) c d = refl
-    regroup (some e) b c d = refl
 
 -- an accepted block is the one at the position
 pub asked-block : (columns rows memory longest x y : ℕ) (z : BlockSize) (b : Block) → Ok b ≡ block-asked columns rows memory longest x y z

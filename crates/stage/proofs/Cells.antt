@@ -17,11 +17,12 @@ use Rattle.cdf.specs.declared.entry.Entry.{Entry}
 use Rattle.cdf.specs.Lists.{from, Each, Rising}
 use Rattle.cdf.proofs.Booleans.{T→true}
 use Rattle.journal.specs.declared.Mark.{Mark}
+use Rattle.journal.specs.declared.Spot.{Spot}
 use Rattle.journal.specs.declared.Spot.the-variants as spot
 use Rattle.model.specs.Calls.{log-if, spot-step, spot-steps}
 use Rattle.model.specs.Decisions.{State, stage, units, in-tile, put-at, block-cells, cells-of}
 use Rattle.model.specs.Facts.{with-cells}
-use Rattle.model.specs.Runs.{World, Lent}
+use Rattle.model.specs.Runs.{World, Lane, Lent}
 use Rattle.model.proofs.Facts.{cells-inside}
 use Rattle.stage.specs.declared.state.Journal.{Journal}
 use Rattle.stage.specs.declared.state.cells.Change.{Change}
@@ -111,14 +112,28 @@ set-world s j j′ l l′ es cells m e a b trials marks small large =
       marks = marks-of (marks i) (trials i);
     }
 
--- no trial is open: nothing is logged
-pub quiet-cells : (ms : List Mark) (trials : ℕ) (k : Change) (is : List ℕ) (m : Logged-cells) → trials ≡ 0 → change-each (marks-of ms trials) k is m .spots ≡ m .spots
+-- while no trial is open nothing is logged
+quiet-cells : (ms : List Mark) (trials : ℕ) (k : Change) (is : List ℕ) (m : Logged-cells) → trials ≡ 0 → change-each (marks-of ms trials) k is m .spots ≡ m .spots
 quiet-cells ms zero k is m e = go is m
   where
     go : (is : List ℕ) (m : Logged-cells) → change-each [] k is m .spots ≡ m .spots
     go [] m = refl
     go (i ∷ is) m = go is (change-one [] k i m)
 quiet-cells ms (suc n) k is m e = absurd (omega arith)
+
+pub still-quiet : (k : Change) (is : List ℕ) (j j′ : Journal) (cells cells′ : List Cell) (spots spots′ : List Spot)
+    → (j′ .trials ≡ j .trials) × (j′ .marks ≡ j .marks) × (j′ .small ≡ j .small) × (j′ .large ≡ j .large)
+    → logged-cells cells′ spots′ (j′ .spots) ≡ change-each (marks-of (j .marks) (j .trials)) k is (logged-cells cells spots (j .spots))
+    → (j .trials ≡ 0 → (j .small ≡ 0) × (j .large ≡ 0) × (j .spots ≡ 0))
+    → j′ .trials ≡ 0 → (j′ .small ≡ 0) × (j′ .large ≡ 0) × (j′ .spots ≡ 0)
+still-quiet k is j j′ cells cells′ spots spots′ kept changes quiet closed =
+    let before : j .trials ≡ 0 = sym (kept .0) ∙ closed in
+    let unused : (j .small ≡ 0) × (j .large ≡ 0) × (j .spots ≡ 0) = quiet before in (
+      kept .2 ∙ unused .0,
+      kept .3 ∙ unused .1,
+      ap (λ (m : Logged-cells). m .spots .used) changes
+          ∙ ap (λ (l : Lane Spot). l .used) (quiet-cells (j .marks) (j .trials) k is (logged-cells cells spots (j .spots)) before) ∙ unused .2,
+    )
 
 -- a block's cells, changed in the world w, from what became of the parts
 pub block-world : (k : Change) (s : State) (x y : ℕ) (z : BlockSize) (j j′ : Journal) (l l′ : Lent stage) (es : List Entry) (cells : List Cell) (b : Block) (w : World stage)
@@ -144,8 +159,11 @@ block-world k s x y z j j′ l l′ es cells b w placed block same changes a c t
     rising = rising-block (s .columns) (block-at (s .columns) (s .rows) x y z .width) (block-at (s .columns) (s .rows) x y z .height) 0 (y * s .columns + x) fits (omega arith)
 
 -- the tile's cells lent as the first part of the map; k is the length that the checker writes for the part
+pub part-long : (memory : List Cell) (n k : ℕ) → k ≡ n → n ≤ length memory → length (midOf 0 k memory) ≡ n
+part-long memory n k e h = length-take k memory ∙ omega arith
+
 pub part-taken : (memory ys : List Cell) (n k : ℕ) → k ≡ n → n ≤ length memory → length ys ≡ length (midOf 0 k memory) → take n (putMid 0 k memory ys) ≡ ys
-part-taken memory ys n k e h long = take-at ys (postOf 0 k memory) n (long ∙ length-take k memory ∙ omega arith)
+part-taken memory ys n k e h long = take-at ys (postOf 0 k memory) n (long ∙ part-long memory n k e h)
 
 pub part-dropped : (memory ys : List Cell) (n k : ℕ) → k ≡ n → n ≤ length memory → length ys ≡ length (midOf 0 k memory) → drop n (putMid 0 k memory ys) ≡ drop n memory
-part-dropped memory ys n k e h long = drop-at ys (postOf 0 k memory) n (long ∙ length-take k memory ∙ omega arith) ∙ ap (λ (i : ℕ). drop i memory) e
+part-dropped memory ys n k e h long = drop-at ys (postOf 0 k memory) n (long ∙ part-long memory n k e h) ∙ ap (λ (i : ℕ). drop i memory) e

@@ -24,7 +24,7 @@ use Rattle.stage.specs.declared.state.bytes.Side.the-variants as side
 use Rattle.stage.specs.Contexts.{side-length, spot-of, Logged-bytes, set-byte, set-bytes}
 use Rattle.stage.specs.Places.{at-each}
 use Rattle.stage.specs.View.{marks-of, world-at}
-use Rattle.stage.proofs.Calls.{refused-call, accepted-call, no-entries}
+use Rattle.stage.proofs.Calls.{refused-told, accepted-told, no-entries}
 
 -- the bytes of a side, taken out of a state and put back
 abbrev pub bytes-of : Side → State → List ℕ
@@ -101,7 +101,7 @@ all-set b (x ∷ xs) = behind (length xs) 0 b xs ∙ ap (λ m. b ∷ m) (all-set
 module _ (memory : ℕ) (rooms : List Entry → ℕ) (s : State) (j : Journal) (l : Lent stage) (es : List Entry) where
   pub row-refused : 0 < j .trials → (Err no.TrialOpen, world-at s j l es) ≡ row-step memory rooms (world-at s j l es)
   unfolding row-step
-  row-refused h = refused-call memory rooms question.RowStart tt tt (world-at s j l es) no.TrialOpen (no-entries (rooms es) _ ∙ go (j .trials) h)
+  row-refused h = refused-told memory rooms tt question.RowStart tt (world-at s j l es) no.TrialOpen (no-entries (rooms es) _ ∙ go (j .trials) h)
     where
       go : (n : ℕ) → 0 < n → open-questions stage (world-at s j l es) question.RowStart tt (marks-of (j .marks) n) ≡ some no.TrialOpen
       go zero h = absurd (omega arith)
@@ -110,7 +110,7 @@ module _ (memory : ℕ) (rooms : List Entry → ℕ) (s : State) (j : Journal) (
   pub row-started : j .trials ≡ 0 → length (s .left) ≡ 8 → (Ok tt, world-at (with-bytes side.Left s (replicate 8 0)) j l es) ≡ row-step memory rooms (world-at s j l es)
   unfolding row-step
   row-started h long =
-      accepted-call memory rooms question.RowStart tt tt (world-at s j l es) (world-at (with-bytes side.Left s (replicate 8 0)) j l es) (no-entries (rooms es) _ ∙ go (j .trials) h) after
+      accepted-told memory rooms tt tt question.RowStart tt (world-at s j l es) (world-at (with-bytes side.Left s (replicate 8 0)) j l es) (no-entries (rooms es) _ ∙ go (j .trials) h) refl after
     where
       go : (n : ℕ) → n ≡ 0 → open-questions stage (world-at s j l es) question.RowStart tt (marks-of (j .marks) n) ≡ none
       go zero h = refl

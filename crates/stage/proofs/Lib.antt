@@ -1,7 +1,9 @@
+mod Blocks
 mod Calls
 mod Cells
 mod Contexts
 mod Places
+mod Segments
 mod Skips
 mod Starts
 mod Symbols

@@ -43,9 +43,15 @@ change-one ms k i m = set-one ms i (changed k (getD (m .cells) i no-cell)) m
 abbrev pub change-each : List Mark → Change → List ℕ → Logged-cells → Logged-cells
 change-each ms k is m = at-each (change-one ms k) is m
 
--- of each unit of the tile, the flag is set where the block covers it, and all else of its cell is as it was
-abbrev pub Flag-set : Tile → ℕ → ℕ → BlockSize → Bool → List Cell → List Cell → Type 0
-Flag-set t x y z flag before after =
+-- of each unit of the tile, the cell is changed where the block covers it, and all else is as it was
+abbrev pub Cells-set : (Cell → Cell) → Tile → ℕ → ℕ → BlockSize → List Cell → List Cell → Type 0
+Cells-set f t x y z before after =
     (u v : ℕ) → u < t .cols → v < t .rows
-    → getD after (v * t .cols + u) no-cell
-    ≡ cond (covers x y z u v) (record { skip = flag; segment = getD before (v * t .cols + u) no-cell .segment }) (getD before (v * t .cols + u) no-cell)
+    → getD after (v * t .cols + u) no-cell ≡ cond (covers x y z u v) (f (getD before (v * t .cols + u) no-cell)) (getD before (v * t .cols + u) no-cell)
+
+-- the flag alone is set, or the segment alone
+abbrev pub Flag-set : Tile → ℕ → ℕ → BlockSize → Bool → List Cell → List Cell → Type 0
+Flag-set t x y z flag before after = Cells-set (λ c. record { skip = flag; segment = c .segment }) t x y z before after
+
+abbrev pub Segment-set : Tile → ℕ → ℕ → BlockSize → ℕ → List Cell → List Cell → Type 0
+Segment-set t x y z id before after = Cells-set (λ c. record { skip = c .skip; segment = id }) t x y z before after

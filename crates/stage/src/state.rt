@@ -8,9 +8,9 @@ use journal::Mark;
 mod bytes;
 mod cells;
 mod partition;
-
 mod questions;
 mod rows;
+mod segment;
 mod skip;
 mod start;
 mod symbols;

@@ -20,10 +20,7 @@ fn spot_of(side: Side, at: usize, was: u8) -> Spot
     ensures { λ r. ⌜ r ≡ spot-of side at was ⌝ }
 {
     match side {
-        Side::Above => Spot::Above {
-            at: at as u16,
-            was,
-        },
+        Side::Above => Spot::Above { at: at as u16, was },
         Side::Left => Spot::Left { at: at as u8, was },
     }
 }

@@ -9,7 +9,6 @@ use Rattle.cdf.specs.Words.{fl-at, fh-at}
 use Rattle.cdf.proofs.Entries.{value-order}
 use Rattle.cdf.proofs.tables.edges.width.Needs as need
 
-
 pub sub-result : need.sub-result
 sub-result c =
     let vs : List ℕ = c .args .cdf .now in

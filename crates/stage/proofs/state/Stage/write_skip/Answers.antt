@@ -1,25 +1,21 @@
 use mathlib.Core.Path.{_≡_, refl, sym, ap, _∙_}
 use mathlib.Core.Bool.{false}
 use mathlib.Core.List.{List}
-use Prim.Native.Nat.{ℕ, _+_, _-_, _*_, _<_, _≤_}
+use Prim.Native.Nat.{ℕ, _-_, _*_, _≤_}
 use native.Mathlib.Omega.{arith}
 use lib.ListN.{length, take, drop}
 use borrow.Rule.Slice.PartMut.{midOf, putMid}
 use borrow.Author.Needs.{needs}
-use Rattle.std.proofs.shelf.Lists.{length-take}
 use Rattle.std.proofs.shelf.Tests.{both-ways}
 use Rattle.std.proofs.shelf.Results.{err-from-errBy}
 use Rattle.av1.specs.declared.tile.Cell.{Cell}
 use Rattle.av1.specs.declared.tile.Tile.{Tile}
 use Rattle.av1.specs.Tiles.{skip-context}
-use Rattle.journal.specs.declared.Spot.{Spot}
-use Rattle.model.specs.Runs.{Lane}
 use Rattle.model.proofs.TreeTables.{skip-in-layout}
 use Rattle.model.specs.Decisions.{block-cells}
 use Rattle.stage.specs.declared.state.cells.Change.the-variants as change
-use Rattle.stage.specs.Cells.{Logged-cells, logged-cells}
 use Rattle.stage.specs.View.{lanes, state-of, world}
-use Rattle.stage.proofs.Cells.{part-taken, part-dropped, quiet-cells}
+use Rattle.stage.proofs.Cells.{part-long, part-taken, part-dropped, still-quiet}
 use Rattle.stage.proofs.Calls.{asked-block}
 use Rattle.stage.proofs.Skips.{refused-block, refused-record, accepted, flag-set}
 use Rattle.stage.proofs.state.Stage.write_skip.Needs as need
@@ -74,8 +70,8 @@ set-block-requires g c κs =
     let inside = c .in-Continue-block .ensures tt .inside in
     let fit = c .in-Continue-ask-record .ensures tt .lanes in
     let units : c .units .result ≡ s .tile .cols * s .tile .rows = c .units .ensures .value in
-    let part : length (take (c .units .result - 0) (c .args .map .now)) ≡ c .units .result =
-    length-take (c .units .result - 0) (c .args .map .now) ∙ omega (arith, c .in-Continue-block .ensures tt .mapped, units) in
+    let part : length (midOf 0 (c .units .result - 0) (c .args .map .now)) ≡ c .units .result =
+    part-long (c .args .map .now) (c .units .result) (c .units .result - 0) (omega arith) (omega (arith, c .in-Continue-block .ensures tt .mapped, units)) in
     let columns : c .cols .result ≡ s .tile .cols = c .cols .ensures in
     record {
       inside = λ i h. omega (arith, inside .row i h, part, units, ap (λ n. i * n) columns);
@@ -86,9 +82,8 @@ set-block-requires g c κs =
 pub ghost-self : need.ghost-self
 ghost-self g c =
     let s = c .symbol .last .self in
-    let kept = c .set-block .ensures .kept in
     let b = c .in-Continue-block .block in
-    let was = logged-cells (midOf 0 (c .units .result - 0) (c .args .map .now)) (c .symbol .last .log .spots .now) (s .journal .spots) in (
+    let kept = c .set-block .ensures .kept in (
       s .ends,
       (
         omega (arith, kept .0, s .few),
@@ -97,14 +92,8 @@ ghost-self g c =
           (
             s .beside,
             (
-              (λ closed.
-                  let before : s .journal .trials ≡ 0 = sym (kept .0) ∙ closed in
-                  let unused = s .quiet before in (
-                    kept .2 ∙ unused .0,
-                    kept .3 ∙ unused .1,
-                    ap (λ (m : Logged-cells). m .spots .used) (c .set-block .ensures .cells)
-                        ∙ ap (λ (l : Lane Spot). l .used) (quiet-cells (s .journal .marks) (s .journal .trials) (change.Skip (c .args .skip)) (block-cells (c .cols .result) (b .width) (b .from) (b .height)) was before) ∙ unused .2,
-                  )),
+              still-quiet (change.Skip (c .args .skip)) (block-cells (c .cols .result) (b .width) (b .from) (b .height)) (s .journal) (c .set-block .last .self)
+                  (midOf 0 (c .units .result - 0) (c .args .map .now)) (c .set-block .last .cells) (c .symbol .last .log .spots .now) _ kept (c .set-block .ensures .cells) (s .quiet),
               tt,
             ),
           ),
@@ -143,8 +132,8 @@ returns g c =
     record {
       step = step;
       cells = λ ok.
-          flag-set (length map) (k .rooms (c .args .sink .now)) from (world s map (lanes (c .args .log .now)) (k .list (c .args .sink .now))) _ (s .tile) map after
-          (c .args .x) (c .args .y) (c .args .bsize) (c .args .skip) refl step refl refl refl
+          flag-set (length map) (k .rooms (c .args .sink .now)) (world s map (lanes (c .args .log .now)) (k .list (c .args .sink .now))) _ (s .tile) map after
+          (c .args .x) (c .args .y) (c .args .bsize) (c .args .skip) step refl refl refl
           (ap (λ (t : Tile). take (t .cols * t .rows) after) (c .symbol .ensures .tile)) (c .in-Continue-block .ensures tt .mapped)
           (asked-block (s .tile .cols) (s .tile .rows) (length map) 64 (c .args .x) (c .args .y) (c .args .bsize) (c .in-Continue-block .block) (c .in-Continue-block .ensures tt .answer) .0);
       behind =
