@@ -159,7 +159,7 @@ pub fn parse_integer(word: &str) -> Result<i32, Fault>
 {
     if is_numeral(word.as_bytes()) || is_negative(word.as_bytes()) {
         match word.parse::<i32>() {
-            Ok(number) => Ok(number),
+            Ok(integer) => Ok(integer),
             Err(_) => Err(Fault::NumberTooLarge),
         }
     } else {
