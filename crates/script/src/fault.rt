@@ -21,9 +21,12 @@ pub enum Fault {
     /// A word follows where the line has to end.
     ExtraWord,
     NotANumber,
+    /// A number is too far from zero for its kind.
     NumberTooLarge,
     NegativeNumber,
     UnknownSize,
+    UnknownPartition,
+    UnknownPrecision,
     /// A flag is 0 or 1.
     NotAFlag,
     UnknownSink,
@@ -48,6 +51,8 @@ impl Fault {
             Fault::NumberTooLarge => "number too large:",
             Fault::NegativeNumber => "negative number",
             Fault::UnknownSize => "unknown size",
+            Fault::UnknownPartition => "unknown partition",
+            Fault::UnknownPrecision => "unknown precision",
             Fault::NotAFlag => "neither 0 nor 1:",
             Fault::UnknownSink => "unknown sink",
             Fault::NoTile => "no tile line before",

@@ -13,6 +13,7 @@ pub use crate::fault::Fault;
 pub use crate::fault::ScriptError;
 pub use crate::parse::Line;
 pub use crate::parse::Script;
+pub use crate::report::Answer;
 pub use crate::report::Answered;
 pub use crate::report::Recorded;
 pub use crate::report::StartRefused;

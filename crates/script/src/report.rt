@@ -8,11 +8,22 @@ ghost use Rattle.script.specs.Reports.{answer-text};
 use av1::Refusal;
 use std::fmt;
 
-/// What the call of a line answered: nothing more than that it was done, a number, or a refusal.
+/// What a call answers that was not refused.
+#[derive(Clone, Copy)]
+pub enum Answer {
+    /// Nothing more than that it was done.
+    Done,
+    /// A number: a count of entries, or a trial's depth.
+    Number(usize),
+    /// A segment's count of entries, and its id.
+    Segmented { count: usize, id: usize },
+}
+
+/// What the call of a line answered.
 #[derive(Clone, Copy)]
 pub struct Answered {
     pub line: usize,
-    pub answer: Result<Option<usize>, Refusal>,
+    pub answer: Result<Answer, Refusal>,
 }
 
 pub impl fmt::Display for Answered as AnsweredDisplay {
@@ -21,8 +32,9 @@ pub impl fmt::Display for Answered as AnsweredDisplay {
     fn fmt<W: fmt::Write>(&self, f: &mut fmt::Formatter<W>) -> fmt::Result {
         let line = self.line;
         match self.answer {
-            Ok(None) => write!(f, "{line}: ok"),
-            Ok(Some(value)) => write!(f, "{line}: ok {value}"),
+            Ok(Answer::Done) => write!(f, "{line}: ok"),
+            Ok(Answer::Number(number)) => write!(f, "{line}: ok {number}"),
+            Ok(Answer::Segmented { count, id }) => write!(f, "{line}: ok {count} {id}"),
             Err(refusal) => {
                 let code = refusal.number();
                 write!(f, "{line}: refused {code}")

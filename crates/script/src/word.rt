@@ -1,12 +1,16 @@
 ghost use mathlib.Core.Path.{_≡_};
 ghost use Prim.Native.Nat.{ℕ};
 ghost use Rattle.std.specs.Options.{Cases};
-ghost use Rattle.script.specs.Names.{size-name, flag-name};
-ghost use Rattle.script.specs.Numbers.{numeral, negative, read-number};
+ghost use Rattle.script.specs.Names.{size-name, partition-name, precision-name, flag-name};
+ghost use Rattle.script.specs.Numbers.{numeral, negative, read-number, read-integer, read-id};
+ghost use Rattle.av1.specs.declared.mv.MvSubpelPrecision.{MvSubpelPrecision};
+ghost use Rattle.av1.specs.declared.partition.PartitionType.{PartitionType};
 ghost use Rattle.av1.specs.declared.size.BlockSize.{BlockSize};
 ghost use mathlib.Core.Bool.{Bool};
 use crate::fault::Fault;
 use av1::BlockSize;
+use av1::MvSubpelPrecision;
+use av1::PartitionType;
 
 /// The name of a size: its width and height in pixels, as `64X32`.
 pub fn size_name(size: BlockSize) -> &'static str
@@ -69,6 +73,37 @@ pub fn parse_size(word: &str) -> Option<BlockSize>
     }
 }
 
+/// The partition that has this name: the standard's, without `PARTITION_`.
+pub fn parse_partition(word: &str) -> Option<PartitionType>
+    ensures { λ r. ⌜ Cases r ((partition : PartitionType) → now (word .entry) ≡ partition-name partition → ⊥) (λ partition. now (word .entry) ≡ partition-name partition) ⌝ }
+{
+    match word {
+        "NONE" => Some(PartitionType::PARTITION_NONE),
+        "HORZ" => Some(PartitionType::PARTITION_HORZ),
+        "VERT" => Some(PartitionType::PARTITION_VERT),
+        "SPLIT" => Some(PartitionType::PARTITION_SPLIT),
+        "HORZ_A" => Some(PartitionType::PARTITION_HORZ_A),
+        "HORZ_B" => Some(PartitionType::PARTITION_HORZ_B),
+        "VERT_A" => Some(PartitionType::PARTITION_VERT_A),
+        "VERT_B" => Some(PartitionType::PARTITION_VERT_B),
+        "HORZ_4" => Some(PartitionType::PARTITION_HORZ_4),
+        "VERT_4" => Some(PartitionType::PARTITION_VERT_4),
+        _ => None,
+    }
+}
+
+/// The precision of vectors that is written NONE, LOW or HIGH.
+pub fn parse_precision(word: &str) -> Option<MvSubpelPrecision>
+    ensures { λ r. ⌜ Cases r ((precision : MvSubpelPrecision) → now (word .entry) ≡ precision-name precision → ⊥) (λ precision. now (word .entry) ≡ precision-name precision) ⌝ }
+{
+    match word {
+        "NONE" => Some(MvSubpelPrecision::MV_SUBPEL_NONE),
+        "LOW" => Some(MvSubpelPrecision::MV_SUBPEL_LOW_PRECISION),
+        "HIGH" => Some(MvSubpelPrecision::MV_SUBPEL_HIGH_PRECISION),
+        _ => None,
+    }
+}
+
 /// The flag that is written 0 or 1.
 pub fn parse_flag(word: &str) -> Option<bool>
     ensures { λ r. ⌜ Cases r ((flag : Bool) → now (word .entry) ≡ flag-name flag → ⊥) (λ flag. now (word .entry) ≡ flag-name flag) ⌝ }
@@ -115,5 +150,29 @@ pub fn parse_number(word: &str) -> Result<usize, Fault>
         Err(Fault::NegativeNumber)
     } else {
         Err(Fault::NotANumber)
+    }
+}
+
+/// The number that a numeral writes, with or without a minus before it, or why the word is none that fits.
+pub fn parse_integer(word: &str) -> Result<i32, Fault>
+    ensures { λ r. ⌜ r ≡ read-integer (now (word .entry)) ⌝ }
+{
+    if is_numeral(word.as_bytes()) || is_negative(word.as_bytes()) {
+        match word.parse::<i32>() {
+            Ok(integer) => Ok(integer),
+            Err(_) => Err(Fault::NumberTooLarge),
+        }
+    } else {
+        Err(Fault::NotANumber)
+    }
+}
+
+/// The id of a segment, or none where the block is skipped.
+pub fn parse_id(word: &str) -> Result<Option<usize>, Fault>
+    ensures { λ r. ⌜ r ≡ read-id (now (word .entry)) ⌝ }
+{
+    match word {
+        "skipped" => Ok(None),
+        _ => Ok(Some(parse_number(word)?)),
     }
 }

@@ -6,13 +6,17 @@ use record::Sink;
 use record::WordRecord;
 use record::pack::packed_bytes;
 use record::word::WordSink;
+use script::Answer;
 use script::Answered;
 use script::Call;
 use script::Digest;
+use script::Fault;
 use script::Recorded;
 use script::Script;
+use script::ScriptError;
 use script::StartRefused;
 use script::State;
+use script::fault::ScriptErrorDisplay;
 use script::report::AnsweredDisplay;
 use script::report::RecordedDisplay;
 use script::report::StartRefusedDisplay;
@@ -67,9 +71,12 @@ pub fn code(heap: Global, script: &Script) -> Result<String, AnyError> {
         spots: &mut spots,
     };
     for line in script.lines.as_slice() {
-        let Call::Skip { x, y, bsize, skip } = line.call;
+        let Call::Skip { x, y, bsize, skip } = line.call else {
+            let error = ScriptError::at(heap, line.number, Fault::NotSupported, line.call.word());
+            return Err(error.to_string(heap)?.into());
+        };
         let answer = match stage.write_skip(&mut sink, &mut map, &mut log, x, y, bsize, skip) {
-            Ok(n) => Ok(Some(n)),
+            Ok(n) => Ok(Answer::Number(n)),
             Err(e) => Err(e),
         };
         writeln!(

@@ -26,6 +26,12 @@ returns-in-NegativeNumber c = sym (ap fault-text (c .in-NegativeNumber .is))
 pub returns-in-UnknownSize : need.returns-in-UnknownSize
 returns-in-UnknownSize c = sym (ap fault-text (c .in-UnknownSize .is))
 
+pub returns-in-UnknownPartition : need.returns-in-UnknownPartition
+returns-in-UnknownPartition c = sym (ap fault-text (c .in-UnknownPartition .is))
+
+pub returns-in-UnknownPrecision : need.returns-in-UnknownPrecision
+returns-in-UnknownPrecision c = sym (ap fault-text (c .in-UnknownPrecision .is))
+
 pub returns-in-NotAFlag : need.returns-in-NotAFlag
 returns-in-NotAFlag c = sym (ap fault-text (c .in-NotAFlag .is))
 

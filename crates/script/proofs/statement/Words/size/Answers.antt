@@ -1,14 +1,12 @@
-use mathlib.Core.Path.{ap, _∙_}
-use Rattle.std.specs.Options.{okOr}
 use Rattle.script.specs.declared.fault.Fault.the-variants.{UnknownSize}
-use Rattle.script.specs.Names.{sized}
-use Rattle.script.specs.Statements.{wanted}
-use Rattle.script.proofs.Saying.{sized-from}
+use Rattle.script.specs.Names.{size-name, sizes}
+use Rattle.script.specs.Statements.{unread}
+use Rattle.script.proofs.Saying.{size-found, named}
 use Rattle.script.proofs.statement.Words.size.Needs as need
 
 pub returns-in-Some : need.returns-in-Some
 returns-in-Some c =
     record {
-      value = c .ok-or .ensures .value ∙ ap (λ o. okOr o UnknownSize) (sized-from (c .in-Some .word .now) _ (c .parse-size .ensures)) ∙ ap (wanted (λ w. okOr (sized w) UnknownSize)) (c .in-Some .ensures tt .value);
+      value = named size-name sizes UnknownSize (c .in-Some .word .now) (unread (c .args .self .now)) _ _ size-found (c .in-Some .ensures tt .value) (c .parse-size .ensures) (c .ok-or .ensures .value);
       after = c .in-Some .ensures tt .after;
     }

@@ -14,14 +14,14 @@ returns-in-rest-word c =
     record {
       not-tile = no .not-tile;
       not-sink = no .not-sink;
-      not-skip = no .not-skip;
-      not-log = no .not-log;
       not-partition = no .not-partition;
+      not-skip = no .not-skip;
       not-segment = no .not-segment;
       not-alphas = no .not-alphas;
       not-vector = no .not-vector;
       not-context = no .not-context;
       not-row = no .not-row;
+      not-log = no .not-log;
       not-open = no .not-open;
       not-back = no .not-back;
       not-keep = no .not-keep;
