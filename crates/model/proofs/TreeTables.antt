@@ -44,11 +44,11 @@ pub skip-in-layout : (k : ℕ) → k < 3 → At (2 * k) 2
 unfolding in-layout table-sizes
 skip-in-layout = true-below 3 (λ k. in-layout (table (2 * k) 2)) tt
 
-split-in-layout : (k : ℕ) → k < 4 → At (6 + 4 * k) 4
+pub split-in-layout : (k : ℕ) → k < 4 → At (6 + 4 * k) 4
 unfolding in-layout table-sizes
 split-in-layout = true-below 4 (λ k. in-layout (table (6 + 4 * k) 4)) tt
 
-partition-in-layout : (k : ℕ) → k < 12 → At (86 + 10 * k) 10
+pub partition-in-layout : (k : ℕ) → k < 12 → At (86 + 10 * k) 10
 unfolding in-layout table-sizes
 partition-in-layout = true-below 12 (λ k. in-layout (table (86 + 10 * k) 10)) tt
 
@@ -232,7 +232,7 @@ level-test «BLOCK_32X8» = tt
 level-test «BLOCK_16X64» = tt
 level-test «BLOCK_64X16» = tt
 
-level-small : (z : BlockSize) → T (splits 64 z) → level z ≤ 3
+pub level-small : (z : BlockSize) → T (splits 64 z) → level z ≤ 3
 level-small z h = leb→le (level z) 3 (go (splits 64 z) h (level-test z))
   where
     go : (b : Bool) → T b → T (not b || leb (level z) 3) → T (leb (level z) 3)
@@ -248,7 +248,7 @@ context-small s x y j =
     let b : bit j (getD (s .above) (x / 2) 0) ≤ 1 = bit-small j (getD (s .above) (x / 2) 0) in
     omega arith
 
-partition-table-in-layout : (j c : ℕ) → j ≤ 3 → c ≤ 3 → in-layout (partition-table j c) ≡ true
+pub partition-table-in-layout : (j c : ℕ) → j ≤ 3 → c ≤ 3 → in-layout (partition-table j c) ≡ true
 partition-table-in-layout zero c h k = split-in-layout c (omega arith)
 partition-table-in-layout (suc j) c h k = partition-in-layout (4 * j + c) (omega arith)
 

@@ -139,6 +139,27 @@ record-refusal s j l es q d r n a b c quiet entries small large spots′ =
     ap₂ (λ k o. or-else (unless (leb k r) no.Room) o) entries (open-asked s j l es q d a b c quiet small large spots′)
     ∙ refused-cond (leb n r) (lanes-fit j l (need a b c)) no.Room no.LogRoom
 
+-- all questions of a decision that brings no map
+pub mapless-refusal : (memory : ℕ) (room : List Entry → ℕ) (s : State) (j : Journal) (l : Lent stage) (es : List Entry) (q : Question) (d : Decision q) (n a b c : ℕ)
+    → brings-map q ≡ false → asked-open q ≡ none
+    → length (path s q (decided s q d)) ≡ n → length (trail s q (decided s q d) .small) ≡ a → length (trail s q (decided s q d) .large) ≡ b → length (trail s q (decided s q d) .spots) ≡ c
+    → refusal stage memory room (world-at s j l es) (ask q d) ≡ or-else (placed s q) (or-else (allowed s q d) (refused-by (record-asked j l (room es) n (need a b c))))
+mapless-refusal memory room s j l es q d n a b c maps quiet entries small large spots′ =
+    ap (λ m. or-else (map-asked-if stage m memory s) (or-else (or-else (placed s q) (or-else (allowed s q d) few)) trials)) maps
+    ∙ regroup (placed s q) (allowed s q d) few trials
+    ∙ ap (λ o. or-else (placed s q) (or-else (allowed s q d) o)) (record-refusal s j l es q (decided s q d) (room es) n a b c quiet entries small large spots′)
+  where
+    few : Option Refusal
+    few = unless (leb (length (path s q (decided s q d))) (room es)) no.Room
+
+    trials : Option Refusal
+    trials = open-questions stage (world-at s j l es) q (decided s q d) (marks-of (j .marks) (j .trials))
+
+    regroup : (b c d e : Option Refusal) → or-else (or-else b (or-else c d)) e ≡ or-else b (or-else c (or-else d e))
+    regroup none none d e = refl
+    regroup none (some f) d e = refl
+    regroup (some f) c d e = refl
+
 -- where there are no entries, there is room
 pub no-entries : (r : ℕ) (o : Option Refusal) → or-else (unless (leb 0 r) no.Room) o ≡ o
 no-entries r o = ap (λ b. or-else (unless b no.Room) o) (T→true (leb 0 r) (le→leb 0 r (omega arith)))

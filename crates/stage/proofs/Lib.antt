@@ -2,6 +2,7 @@ mod Blocks
 mod Calls
 mod Cells
 mod Contexts
+mod Partitions
 mod Places
 mod Segments
 mod Skips

@@ -13,11 +13,11 @@ ghost use Rattle.cdf.specs.Layout.{in-layout};
 ghost use Rattle.cdf.specs.Words.{table};
 ghost use Rattle.model.specs.declared.Question.the-variants as question;
 ghost use Rattle.model.specs.Calls.{decision-step, symbol-step, symbol-steps};
-ghost use Rattle.model.specs.Coders.{edge};
+ghost use Rattle.model.specs.Coders as coder;
 ghost use Rattle.model.specs.Decisions.{stage, partition-allowed, partition-path, partition-table, partition-tree};
 ghost use Rattle.model.specs.Runs.{Lent};
 ghost use Rattle.stage.specs.Lanes.{Same-memory};
-ghost use Rattle.stage.specs.Partitions.{context-at};
+ghost use Rattle.stage.specs.Partitions.{context-at, entries-at, small-at, large-at};
 ghost use Rattle.stage.specs.View.{lanes, world};
 use crate::state::Contexts;
 use crate::state::Stage;
@@ -28,9 +28,8 @@ use cdf::Edge;
 use journal::Log;
 use record::Sink;
 
-// How many bits of a context byte tell sizes below a square of side 8 × 2^level.
 impl Contexts {
-    // The context of a square of side 8 × 2^`level`: whether the blocks above and left are smaller.
+    // The context of a square of side 8 × 2^`level`: whether the blocks left and above are smaller.
     fn partition_plane_context(&self, x: usize, y: usize, level: usize) -> usize
         requires inside { ⌜ x < 1024 ⌝ }
         requires level { ⌜ level ≤ 3 ⌝ }
@@ -40,5 +39,63 @@ impl Contexts {
         let above = (self.above[x / 2] >> level) % 2;
         let left = (self.left[y % 16 / 2] >> level) % 2;
         2 * left as usize + above as usize
+    }
+}
+
+// The table of a square of side 8 × 2^`level` in a context: its first word and its number of symbols.
+fn partition_table(level: usize, ctx: usize) -> (usize, usize)
+    requires { ⌜ (level ≤ 3) × (ctx ≤ 3) ⌝ }
+    ensures value { λ r. ⌜ table (r .0) (r .1) ≡ partition-table level ctx ⌝ }
+    ensures layout { λ r. ⌜ in-layout (table (r .0) (r .1)) ≡ true ⌝ }
+{
+    if level == 0 {
+        (6 + 4 * ctx, 4)
+    } else {
+        (86 + 10 * (4 * (level - 1) + ctx), 10)
+    }
+}
+
+// Whether a partition can be coded by a table of `n` symbols, where the block's lower half has rows and its right
+// half columns in the tile as told.
+fn is_allowed(rows: bool, cols: bool, n: usize, p: usize) -> bool
+    ensures { λ r. ⌜ ((first : ℕ) → r ≡ partition-allowed rows cols (table first n) p) ⌝ }
+{
+    if rows && cols {
+        p < n
+    } else if cols {
+        p == 3 || p == 1
+    } else if rows {
+        p == 3 || p == 2
+    } else {
+        p == 3
+    }
+}
+
+// How many entries a partition has, and undo records in the lanes of small and large windows.
+fn records(rows: bool, cols: bool, n: usize) -> (usize, usize, usize)
+    ensures { λ r. ⌜ (r .0 ≡ entries-at rows cols) × (r .1 ≡ small-at rows cols n) × (r .2 ≡ large-at rows cols n) ⌝ }
+{
+    if rows && cols {
+        if n <= 4 { (1, 1, 0) } else { (1, 0, 1) }
+    } else if rows || cols {
+        (1, 0, 0)
+    } else {
+        (0, 0, 0)
+    }
+}
+
+impl Stage {
+    // Codes symbol `s` at an edge. The table that it is summed from does not adapt.
+    fn edge_symbol<S: Sink>(&self, sink: &mut S, first: usize, n: usize, edge: Edge, s: usize)
+        requires table { ⌜ in-layout (table first n) ≡ true ⌝ }
+        requires symbol { ⌜ s < 2 ⌝ }
+        requires room { ⌜ 0 < S·Sink .rooms (now sink) (S·Sink .list (now sink)) ⌝ }
+        ensures step { λ _. ⌜ ((memory : List Cell) (l : Lent stage) → world (now (self .entry)) memory l (S·Sink .list (now (sink .exit))) ≡ symbol-step (coder.edge (table first n) (edge-symbols edge)) s (world (now (self .entry)) memory l (S·Sink .list (now (sink .entry))))) ⌝ }
+        ensures rooms { λ _. ⌜ S·Sink .rooms (now (sink .exit)) ≡ S·Sink .rooms (now (sink .entry)) ⌝ }
+    {
+        let Some(entry) = self.tables.edge_symbol(first, n, edge, s) else {
+            unreachable()
+        };
+        let _ = sink.put(entry);
     }
 }
