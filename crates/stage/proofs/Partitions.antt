@@ -31,7 +31,7 @@ use Rattle.model.specs.Runs.{World, Lent, Lane, ask, refusal, or-else, unless}
 use Rattle.model.specs.Tree.{written}
 use Rattle.model.proofs.TreeTables.{split-in-layout, partition-in-layout}
 use Rattle.stage.specs.declared.state.Journal.{Journal}
-use Rattle.stage.specs.Partitions.{entries-at, small-at, large-at}
+use Rattle.stage.specs.Partitions.{context-at, entries-at, small-at, large-at}
 use Rattle.stage.specs.Questions.{need, record-asked}
 use Rattle.stage.specs.View.{lane, marks-of, world-at, refused-by}
 use Rattle.stage.proofs.Calls.{refused-step, accepted-step, mapless-refusal}
@@ -129,6 +129,24 @@ fitting s x y z p = partition-allowed (has-rows s y z) (has-columns s x z) (tabl
 
 abbrev then-asked : State → Journal → Lent stage → ℕ → ℕ → BlockSize → ℕ → ℕ → Option Refusal
 then-asked s j l x y z p room = or-else (unless (fitting s x y z p) no.Partition) (refused-by (taken s j l x y z room))
+
+-- what the stage has worked out is the model's
+pub same-table : (s : State) (x y : ℕ) (z : BlockSize) (lv ctx first n : ℕ) → lv ≡ level z → ctx ≡ context-at (s .above) (s .left) x y lv → table first n ≡ partition-table lv ctx
+    → table first n ≡ table-at s x y z
+same-table s x y z lv ctx first n lev con tab = tab ∙ ap₂ partition-table lev (con ∙ ap (context-at (s .above) (s .left) x y) lev)
+
+pub same-fit : (s : State) (x y : ℕ) (z : BlockSize) (r c : Bool) (t : Table) (p q : ℕ) → r ≡ has-rows s y z → c ≡ has-columns s x z → t ≡ table-at s x y z → p ≡ q
+    → partition-allowed r c t p ≡ fitting s x y z q
+same-fit s x y z r c t p q rows columns tab num = λ i. partition-allowed (rows i) (columns i) (tab i) (num i)
+
+pub same-taken : (s : State) (j : Journal) (l : Lent stage) (x y : ℕ) (z : BlockSize) (r c : Bool) (t : Table) (entries small large room room′ : ℕ) → r ≡ has-rows s y z → c ≡ has-columns s x z → t ≡ table-at s x y z
+    → entries ≡ entries-at r c → small ≡ small-at r c (t .count) → large ≡ large-at r c (t .count) → room ≡ room′ → record-asked j l room entries (need small large 0) ≡ taken s j l x y z room′
+same-taken s j l x y z r c t entries small large room room′ rows columns tab e a b same =
+    (λ i. record-asked j l (same i) (e i) (need (a i) (b i) 0)) ∙ (λ i. record-asked j l room′ (entries-at (rows i) (columns i)) (need (small-at (rows i) (columns i) (tab i .count)) (large-at (rows i) (columns i) (tab i .count)) 0))
+
+pub same-coded : (s : State) (x y : ℕ) (z : BlockSize) (r c : Bool) (t : Table) (p q : ℕ) (w : World stage) → r ≡ has-rows s y z → c ≡ has-columns s x z → t ≡ table-at s x y z → p ≡ q
+    → symbol-steps (partition-tree r c t) (partition-path r c p) w ≡ symbol-steps (partition-tree (has-rows s y z) (has-columns s x z) (table-at s x y z)) (partition-path (has-rows s y z) (has-columns s x z) q) w
+same-coded s x y z r c t p q w rows columns tab num = λ i. symbol-steps (partition-tree (rows i) (columns i) (tab i)) (partition-path (rows i) (columns i) (num i)) w
 
 module _ (memory : ℕ) (room : List Entry → ℕ) (s : State) (j : Journal) (l : Lent stage) (es : List Entry) (x y : ℕ) (z : BlockSize) (p : ℕ) where
   questions : refusal stage memory room (world-at s j l es) (ask (question.Partition x y z) p)

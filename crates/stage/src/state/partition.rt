@@ -98,4 +98,68 @@ impl Stage {
         };
         let _ = sink.put(entry);
     }
+
+    // Codes a partition: by the table where the tile has rows and columns for both halves, at an edge by two symbols,
+    // and at the corner by none.
+    fn code_partition<S: Sink>(
+        &mut self,
+        sink: &mut S,
+        log: &mut Log<'_>,
+        rows: bool,
+        cols: bool,
+        first: usize,
+        n: usize,
+        p: usize,
+    )
+        requires table { ⌜ in-layout (table first n) ≡ true ⌝ }
+        requires allowed { ⌜ partition-allowed rows cols (table first n) p ≡ true ⌝ }
+        requires room { ⌜ entries-at rows cols ≤ S·Sink .rooms (now sink) (S·Sink .list (now sink)) ⌝ }
+        requires small { ⌜ (0 < now self .journal .trials → now self .journal .small + small-at rows cols n ≤ length (now (now log .small))) ⌝ }
+        requires large { ⌜ (0 < now self .journal .trials → now self .journal .large + large-at rows cols n ≤ length (now (now log .large))) ⌝ }
+        ensures step { λ _. ⌜ ((memory : List Cell) → world (now (self .exit)) memory (lanes (now (log .exit))) (S·Sink .list (now (sink .exit))) ≡ symbol-steps (partition-tree rows cols (table first n)) (partition-path rows cols p) (world (now (self .entry)) memory (lanes (now (log .entry))) (S·Sink .list (now (sink .entry))))) ⌝ }
+        ensures rooms { λ _. ⌜ S·Sink .rooms (now (sink .exit)) ≡ S·Sink .rooms (now (sink .entry)) ⌝ }
+        ensures memory { λ _. ⌜ Same-memory (now (log .exit)) (now (log .entry)) ⌝ }
+    {
+        if rows && cols {
+            self.symbol(sink, log, first, n, p);
+        } else if cols {
+            self.edge_symbol(sink, first, n, Edge::Bottom, (p == 3) as usize);
+        } else if rows {
+            self.edge_symbol(sink, first, n, Edge::Right, (p == 3) as usize);
+        }
+    }
+
+    /// Codes how a square block is split. Answers how many entries were written: one, or none where the tile ends
+    /// inside both halves of the block and only PARTITION_SPLIT is possible.
+    pub fn write_partition<S: Sink>(
+        &mut self,
+        sink: &mut S,
+        log: &mut Log<'_>,
+        x: usize,
+        y: usize,
+        bsize: BlockSize,
+        p: PartitionType,
+    ) -> Result<usize, Refusal>
+        ensures step { λ r. ⌜ ((memory : List Cell) → (r, world (now (self .exit)) memory (lanes (now (log .exit))) (S·Sink .list (now (sink .exit)))) ≡ decision-step (length memory) (S·Sink .rooms (now (sink .entry))) (question.Partition x y bsize) (number p) (world (now (self .entry)) memory (lanes (now (log .entry))) (S·Sink .list (now (sink .entry))))) ⌝ }
+        ensures rooms { λ _. ⌜ S·Sink .rooms (now (sink .exit)) ≡ S·Sink .rooms (now (sink .entry)) ⌝ }
+        ensures still { λ r. ⌜ (isOk r ≡ false → (now (sink .exit) ≡ now (sink .entry)) × (now (self .exit) ≡ now (self .entry))) ⌝ }
+        ensures memory { λ _. ⌜ Same-memory (now (log .exit)) (now (log .entry)) ⌝ }
+    {
+        let tile = self.tile;
+        tile.ask_square(64, x, y, bsize)?;
+        let rows = tile.has_rows(y, bsize);
+        let cols = tile.has_cols(x, bsize);
+        let level = bsize.width_log2() - 3;
+        let ctx = self.contexts.partition_plane_context(x, y, level);
+        let (first, n) = partition_table(level, ctx);
+        let p = p.number();
+        if !is_allowed(rows, cols, n, p) {
+            return Err(Refusal::Partition);
+        }
+        let (entries, small, large) = records(rows, cols, n);
+        self.journal
+            .ask_record(log, sink.room(), entries, small, large, 0)?;
+        self.code_partition(sink, log, rows, cols, first, n, p);
+        Ok(entries)
+    }
 }
