@@ -73,10 +73,10 @@ cells-inside s x y z h =
     let b : y < s .rows = ltb→lt y (s .rows) (and-first (ltb y (s .rows)) _ (and-second (ltb x (s .columns)) _ h)) in
     block-inside (s .columns) (s .rows) (min (width-mi z) (s .columns - x)) x (min (height-mi z) (s .rows - y)) y (omega arith) (omega arith)
 
-abbrev Bytes : ℕ → ℕ → BlockSize → Type 0
+abbrev pub Bytes : ℕ → ℕ → BlockSize → Type 0
 Bytes x y z = (above-place x + width z / 8 ≤ 512) × ((y % 16) / 2 + height z / 8 ≤ 8)
 
-bytes-inside : (x y : ℕ) (z : BlockSize) → x < 1024 → T (splits 64 z) → x % width-mi z ≡ 0 → y % height-mi z ≡ 0 → Bytes x y z
+pub bytes-inside : (x y : ℕ) (z : BlockSize) → x < 1024 → T (splits 64 z) → x % width-mi z ≡ 0 → y % height-mi z ≡ 0 → Bytes x y z
 bytes-inside x y «BLOCK_4X4» l h a b = absurd h
 bytes-inside x y «BLOCK_4X8» l h a b = absurd h
 bytes-inside x y «BLOCK_8X4» l h a b = absurd h
@@ -100,7 +100,7 @@ bytes-inside x y «BLOCK_32X8» l h a b = absurd h
 bytes-inside x y «BLOCK_16X64» l h a b = absurd h
 bytes-inside x y «BLOCK_64X16» l h a b = absurd h
 
-side-most : (n : ℕ) → side n ≡ true → n ≤ 1024
+pub side-most : (n : ℕ) → side n ≡ true → n ≤ 1024
 side-most n h = leb→le n 1024 (and-second (leb 2 n) _ (and-second (eqb (n % 2) 0) _ (true→T (side n) h)))
 
 pub spots-inside : Spots-inside

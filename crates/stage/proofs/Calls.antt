@@ -165,11 +165,11 @@ pub no-entries : (r : ℕ) (o : Option Refusal) → or-else (unless (leb 0 r) no
 no-entries r o = ap (λ b. or-else (unless b no.Room) o) (T→true (leb 0 r) (le→leb 0 r (omega arith)))
 
 -- how many spots a block has
-length-olds : (ps : List Spot) (s : State) → length (old-spots s ps) ≡ length ps
+pub length-olds : (ps : List Spot) (s : State) → length (old-spots s ps) ≡ length ps
 length-olds [] s = refl
 length-olds (p ∷ ps) s = ap suc (length-olds ps (put-spot s p))
 
-length-from : (n i : ℕ) → length (from i n) ≡ n
+pub length-from : (n i : ℕ) → length (from i n) ≡ n
 length-from zero i = refl
 length-from (suc n) i = ap suc (length-from n (suc i))
 
