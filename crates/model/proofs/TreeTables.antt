@@ -56,11 +56,11 @@ pub segment-in-layout : (k : ℕ) → k < 3 → At (30 + 8 * k) 8
 unfolding in-layout table-sizes
 segment-in-layout = true-below 3 (λ k. in-layout (table (30 + 8 * k) 8)) tt
 
-alpha-in-layout : (k : ℕ) → k < 6 → At (206 + 16 * k) 16
+pub alpha-in-layout : (k : ℕ) → k < 6 → At (206 + 16 * k) 16
 unfolding in-layout table-sizes
 alpha-in-layout = true-below 6 (λ k. in-layout (table (206 + 16 * k) 16)) tt
 
-signs-in-layout : At 22 8
+pub signs-in-layout : At 22 8
 unfolding in-layout table-sizes
 signs-in-layout = refl
 

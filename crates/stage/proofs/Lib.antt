@@ -1,3 +1,4 @@
+mod Alphas
 mod Blocks
 mod Calls
 mod Cells

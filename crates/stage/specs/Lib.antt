@@ -1,3 +1,4 @@
+pub mod Alphas
 pub mod Cells
 pub mod Contexts
 pub mod Lanes

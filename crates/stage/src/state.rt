@@ -5,6 +5,7 @@ use av1::Tile;
 use cdf::Tables;
 use journal::Mark;
 
+mod alphas;
 mod bytes;
 mod cells;
 mod partition;
