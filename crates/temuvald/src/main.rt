@@ -1,8 +1,6 @@
 //! Codes a script of calls, and prints what each call answered, how large the record is, and a digest of the final
 //! state. The script is the file that is named, or else the standard input.
-mod coding;
-
-use crate::coding::code;
+use coding::code;
 use script::fault::ScriptErrorDisplay;
 use script::parse::parse;
 use std::env;
