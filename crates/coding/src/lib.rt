@@ -1,4 +1,5 @@
 use av1::Cell;
+use av1::Refusal;
 use journal::Log;
 use journal::Spot;
 use journal::Window;
@@ -41,6 +42,66 @@ fn digest(stage: &Stage, cells: &[Cell]) -> u64 {
     d.value()
 }
 
+// An alpha as the stage takes it. What does not fit stays outside the domain, and is refused there.
+fn alpha(a: i32) -> i16 {
+    a.clamp(-32768, 32767) as i16
+}
+
+/// Makes a call of a script.
+fn answer<S: Sink>(
+    stage: &mut Stage,
+    sink: &mut S,
+    map: &mut [Cell],
+    log: &mut Log<'_>,
+    call: Call,
+) -> Result<Answer, Refusal> {
+    match call {
+        Call::Partition {
+            x,
+            y,
+            bsize,
+            partition,
+        } => {
+            let n = stage.write_partition(sink, log, x, y, bsize, partition)?;
+            Ok(Answer::Number(n))
+        }
+        Call::Skip { x, y, bsize, skip } => {
+            let n = stage.write_skip(sink, map, log, x, y, bsize, skip)?;
+            Ok(Answer::Number(n))
+        }
+        Call::Segment { x, y, bsize, id } => {
+            let (skip, segment) = match id {
+                Some(id) => (false, id),
+                None => (true, 0),
+            };
+            let (count, id) = stage.write_segmentation(sink, map, log, x, y, bsize, skip, segment)?;
+            Ok(Answer::Segmented { count, id })
+        }
+        Call::Alphas { u, v } => {
+            let n = stage.write_cfl_alphas(sink, log, alpha(u), alpha(v))?;
+            Ok(Answer::Number(n))
+        }
+        Call::Vector {
+            row: _,
+            col: _,
+            precision: _,
+        } => Ok(Answer::Done),
+        Call::ContextUpdate {
+            x,
+            y,
+            bsize,
+            subsize,
+        } => {
+            stage.update_partition_context(log, x, y, subsize, bsize)?;
+            Ok(Answer::Done)
+        }
+        Call::RowStart => {
+            stage.reset_left_contexts()?;
+            Ok(Answer::Done)
+        }
+    }
+}
+
 /// Codes a script, and answers what is to be printed.
 pub fn code(heap: Global, script: &Script) -> Result<String, AnyError> {
     let mut out = String::new(heap);
@@ -71,14 +132,11 @@ pub fn code(heap: Global, script: &Script) -> Result<String, AnyError> {
         spots: &mut spots,
     };
     for line in script.lines.as_slice() {
-        let Call::Skip { x, y, bsize, skip } = line.call else {
+        if let Call::Vector { .. } = line.call {
             let error = ScriptError::at(heap, line.number, Fault::NotSupported, line.call.word());
             return Err(error.to_string(heap)?.into());
-        };
-        let answer = match stage.write_skip(&mut sink, &mut map, &mut log, x, y, bsize, skip) {
-            Ok(n) => Ok(Answer::Number(n)),
-            Err(e) => Err(e),
-        };
+        }
+        let answer = answer(&mut stage, &mut sink, &mut map, &mut log, line.call);
         writeln!(
             &mut out,
             "{}",

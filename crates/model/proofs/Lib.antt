@@ -3,6 +3,7 @@ pub mod Blocks
 pub mod Examples
 pub mod Facts
 pub mod Reading
+pub mod Signs
 pub mod Staged
 pub mod Standing
 pub mod Stepping

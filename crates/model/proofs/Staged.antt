@@ -29,6 +29,7 @@ use Rattle.cdf.specs.Layout.{Sound-words, lawful}
 use Rattle.cdf.specs.Lists.{Each}
 use Rattle.cdf.specs.Windows.{put-window, taken-window, window}
 use Rattle.cdf.specs.Words.{Table, Words}
+use Rattle.model.specs.Facts.{Accepted-leads}
 use Rattle.model.proofs.AlphaSigns.{alphas-leads}
 use Rattle.model.proofs.Reading.{reads-record, tells-runs-apart}
 use Rattle.model.proofs.Standing.{no-trace, none-passed, or-else-first, or-else-second, unless-true}
@@ -346,7 +347,7 @@ prediction-most : (s : State) (x y : ℕ) → prediction s x y ≤ s .last
 unfolding prediction
 prediction-most s x y = omega arith
 
-leads : (s : State) (q : Question) (d : Decision q) → Sound s → allowed s q d ≡ none → Leads (tree s q) (path s q (decided s q d)) (decided s q d)
+pub leads : Accepted-leads
 leads s (of.Partition x y z) d sound ok = partition-leads (has-rows s y z) (has-columns s x z) (table-at s x y z) d (unless-true _ no.Partition ok)
 leads s (of.Skip x y z) d sound ok = skip-leads (record { first = 2 * skip-context s x y; count = 2 }) d refl
 leads s (of.Segment x y z skip) d sound ok =

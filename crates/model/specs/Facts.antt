@@ -4,27 +4,32 @@ use mathlib.Core.Bool.{Bool, true, false, cond, _&&_}
 use mathlib.Core.List.{List, [], _∷_, _++_, map}
 use mathlib.Core.Option.{Option, none, some}
 use Prim.Native.Nat.{ℕ, zero, suc, _+_, _-_, _*_, _/_, _%_, _^_, _<_, _≤_}
-use lib.Dec.{ltb, leb, eqb}
+use lib.Dec.{T, ltb, leb, eqb}
 use lib.ListN.{length, getD, take, drop, replicate}
 use lib.Seq.{sets}
 use Rattle.cdf.specs.declared.entry.Entry.{Entry}
 use Rattle.av1.specs.declared.size.BlockSize.{BlockSize}
 use Rattle.av1.specs.declared.tile.Cell.{Cell}
 use Rattle.av1.specs.declared.size.BlockSize.the-variants.{«BLOCK_8X8»}
+use Rattle.av1.specs.declared.mv.MvSubpelPrecision.{MvSubpelPrecision}
 use Rattle.av1.specs.declared.mv.MvSubpelPrecision.the-variants as at
 use Rattle.journal.specs.declared.Spot.{Spot}
 use Rattle.journal.specs.declared.Spot.the-variants as spot
 use Rattle.model.specs.declared.Question.{Question}
 use Rattle.model.specs.declared.Question.the-variants as of
 use Rattle.av1.specs.declared.refusal.Refusal.the-variants as no
+use Rattle.av1.specs.Alphas.{sign-of, alphas-allowed}
+use Rattle.av1.specs.Vectors.{nonzero, sign-bit}
 use Rattle.av1.specs.Sizes.{width, height, width-mi, height-mi, above-byte, left-byte}
 use Rattle.av1.specs.Tiles.{no-cell}
 use Rattle.cdf.specs.Lists.{Each}
 use Rattle.cdf.specs.Words.{Words}
-use Rattle.model.specs.Tree.{read, read-as, faulty, Fault}
+use Rattle.model.specs.Alphas.{alphas-path}
+use Rattle.model.specs.Tree.{Leads, read, read-as, faulty, Fault}
+use Rattle.model.specs.Vector.{has-row, has-col, path-if, vector-path}
 use lib.IntN.{ℤ, pos, negsuc}
 use Rattle.model.specs.Runs.{Stood, Book, Ran, Lent, run, fresh, empty-book, ask, open-trial, take-back, keep, asked, sent, settle, read-asked, reads, stopped, fault}
-use Rattle.model.specs.Decisions.{State, Sound, Decision, stage, in-tile, settled, units, above-length, left-length, bit, tree, path, decided, spots, placed}
+use Rattle.model.specs.Decisions.{State, Sound, Decision, stage, in-tile, settled, units, above-length, left-length, bit, tree, path, decided, spots, placed, allowed}
 use Rattle.model.specs.Worked.{start}
 
 -- a spot lies inside
@@ -113,3 +118,23 @@ Short-run =
     (short-run .book ≡ record { standing = record { question = of.Skip 0 0 «BLOCK_8X8»; decision = true } ∷ record { question = of.Alphas; decision = (pos 16, negsuc 15) } ∷ []; numbers = [] })
     × (map (λ (e : Entry). e .s) (short-run .world .core .entries) ≡ 1 ∷ 6 ∷ 15 ∷ 15 ∷ [])
     × (take 2 (short-run .world .core .state .words) ≡ 17408 ∷ 1 ∷ [])
+
+-- the writer's symbols of every decision that the questions accept lead to it
+abbrev pub Accepted-leads : Type 0
+Accepted-leads = (s : State) (q : Question) (d : Decision q) → Sound s → allowed s q d ≡ none → Leads (tree s q) (path s q (decided s q d)) (decided s q d)
+
+-- a vector's first symbol, the joint, names the row exactly where it is not zero, and the column likewise
+abbrev pub Joint-names : Type 0
+Joint-names =
+    (p : MvSubpelPrecision) (d : ℤ × ℤ)
+    → (has-row (getD (vector-path p d) 0 0) ≡ eqb (nonzero (d .0)) 1) × (has-col (getD (vector-path p d) 0 0) ≡ eqb (nonzero (d .1)) 1)
+
+-- a component's first symbol is its sign: 1 for a negative one
+abbrev pub Sign-first : Type 0
+Sign-first = (p : MvSubpelPrecision) (d : ℤ) → nonzero d ≡ 1 → getD (path-if p d) 0 0 ≡ sign-bit d
+
+-- the first symbol of alphas has both signs: 0 for zero, 1 for negative, 2 for positive
+abbrev pub Signs-joined : Type 0
+Signs-joined =
+    (d : ℤ × ℤ) → T (alphas-allowed d)
+    → ((getD (alphas-path d) 0 0 + 1) / 3 ≡ sign-of (d .0)) × ((getD (alphas-path d) 0 0 + 1) % 3 ≡ sign-of (d .1))

@@ -5,7 +5,7 @@ ghost use Prim.Native.Nat.{ℕ};
 ghost use lib.IntN.{ℤ};
 ghost use Rattle.model.specs.Calls.{By-steps, Steps-then, Skipped-alike};
 ghost use Rattle.model.specs.Decisions.{stage, Trees-in-layout};
-ghost use Rattle.model.specs.Facts.{Skip-set, Segment-set, Spots-inside, Counted, Reads-sound, Context-bits, Faults, Short-run};
+ghost use Rattle.model.specs.Facts.{Accepted-leads, Joint-names, Sign-first, Signs-joined, Skip-set, Segment-set, Spots-inside, Counted, Reads-sound, Context-bits, Faults, Short-run};
 ghost use Rattle.model.specs.Runs.{No-trace, Reads-record, Tells-runs-apart, Refused-alike, None-passed};
 ghost use Rattle.model.specs.Tree.{Tells-apart, Reads-back, Read-then, Read-by};
 ghost use Rattle.model.specs.Vector.{Component-leads};
@@ -106,6 +106,23 @@ pub fn context_bits_compare_sizes() -> u8
 /// A component's symbols lead to it.
 pub fn component_leads() -> u8
     ensures { λ _. ⌜ Component-leads ⌝ }
+{
+    0
+}
+
+/// The writer's symbols of every decision that the questions accept lead to that decision.
+pub fn accepted_decisions_lead() -> u8
+    ensures { λ _. ⌜ Accepted-leads ⌝ }
+{
+    0
+}
+
+/// A vector's joint names the components that are not zero, a component's first symbol is its sign, and the first
+/// symbol of alphas has both their signs.
+pub fn first_symbols() -> u8
+    ensures joint { λ _. ⌜ Joint-names ⌝ }
+    ensures sign { λ _. ⌜ Sign-first ⌝ }
+    ensures signs { λ _. ⌜ Signs-joined ⌝ }
 {
     0
 }
