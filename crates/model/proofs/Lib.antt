@@ -10,3 +10,4 @@ pub mod Trails
 pub mod TreeTables
 pub mod Trees
 pub mod Vectors
+pub mod Windows
