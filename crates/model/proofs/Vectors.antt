@@ -15,7 +15,7 @@ use Rattle.cdf.proofs.Booleans.{and-first, and-second}
 use Rattle.model.proofs.Trees.{leads-by, leads-then}
 use Rattle.model.specs.Coders.{whole}
 use Rattle.model.specs.Tree.{Leads, and-then, read-by}
-use Rattle.model.specs.Vector.{Component-leads, Fits, bits-of, bits-tree, component-if, component-path, component-tree, fits-precision, fraction-path, fraction-tree, has-col, has-row, high-path, high-tree, in-range, integer-path, integer-tree, path-if, step-of, vector-path, vector-tree}
+use Rattle.model.specs.Vector.{Component-leads, Fits, bits-of, bits-tree, class-width, component-if, component-path, component-tree, fits-precision, fraction-path, fraction-tree, has-col, has-row, high-path, high-tree, in-range, integer-path, integer-tree, path-if, present, step-of, vector-path, vector-tree}
 
 -- A component's symbols lead to it.
 leads-bits : (n f v : ℕ) → v < 2 ^ n → Leads (bits-tree f n) (bits-of n v) v
@@ -24,12 +24,7 @@ leads-bits (suc n) f v h =
     let k : v < 2 ^ n * 2 = rw pow-suc at h in
     (omega arith, leads-by (bits-tree (f + 2) n) (λ r. v % 2 + 2 * r) (bits-of n (v / 2)) (v / 2) v (leads-bits n (f + 2) (v / 2) (omega arith)) (omega arith))
 
--- how far the offsets of a class go
-abbrev pub width : ℕ → ℕ
-width zero = 16
-width (suc c) = 8 * 2 ^ suc c
-
-pub leads-integer : (b c o : ℕ) → o < width c → Leads (integer-tree b c) (integer-path c (o / 8)) (o / 8)
+pub leads-integer : (b c o : ℕ) → o < class-width c → Leads (integer-tree b c) (integer-path c (o / 8)) (o / 8)
 leads-integer b zero o h = (omega arith, refl)
 leads-integer b (suc c) o h = leads-bits (suc c) (b + 8) (o / 8) (omega arith)
 
@@ -46,7 +41,7 @@ leads-high b at.«MV_SUBPEL_LOW_PRECISION» c o h = omega arith
 leads-high b at.«MV_SUBPEL_HIGH_PRECISION» zero o h = (omega arith, refl)
 leads-high b at.«MV_SUBPEL_HIGH_PRECISION» (suc c) o h = (omega arith, refl)
 
-leads-component : (b : ℕ) (p : MvSubpelPrecision) (sign c o : ℕ) → sign < 2 → c < 11 → o < width c → Fits p o
+leads-component : (b : ℕ) (p : MvSubpelPrecision) (sign c o : ℕ) → sign < 2 → c < 11 → o < class-width c → Fits p o
     → Leads (component-tree b p) (sign ∷ c ∷ (integer-path c (o / 8) ++ (fraction-path p ((o / 2) % 4) ++ high-path p (o % 2)))) (signed sign (class-base c + o))
 leads-component b p sign c o hs hc ho fits =
     let d : ℕ = o / 8 in
@@ -81,7 +76,7 @@ class-in m (suc n) c z e h k = go (ltb z (8 * 2 ^ suc c)) (ltb→lt z (8 * 2 ^ s
     go true l g r = (h, l tt, omega arith)
     go false l g r = r (g tt)
 
-offset-within : (k z : ℕ) → class-base k ≤ z → z < 8 * 2 ^ suc k → z - class-base k < width k
+offset-within : (k z : ℕ) → class-base k ≤ z → z < 8 * 2 ^ suc k → z - class-base k < class-width k
 offset-within zero z h l = let e : z < 16 = l in omega arith
 offset-within (suc k) z h l = let e : 2 ^ suc (suc k) ≡ 2 ^ suc k * 2 = pow-suc 2 (suc k) in omega arith
 
@@ -100,7 +95,7 @@ class-within z h = class-in 10 10 0 z (omega arith) (omega arith) h
 pub record Inside (p : MvSubpelPrecision) (z : ℕ) : Type 0 where
   pub class : class-of z < 11
   pub starts : class-base (class-of z) ≤ z
-  pub offset : offset-of z < width (class-of z)
+  pub offset : offset-of z < class-width (class-of z)
   pub fine : Fits p (offset-of z)
 
 pub inside : (p : MvSubpelPrecision) (z : ℕ) → z < 16384 → Fits p z → Inside p z
@@ -121,11 +116,6 @@ pub fits-less : (p : MvSubpelPrecision) (z : ℕ) → suc z % step-of p ≡ 0 �
 fits-less at.«MV_SUBPEL_NONE» z h = omega arith
 fits-less at.«MV_SUBPEL_LOW_PRECISION» z h = omega arith
 fits-less at.«MV_SUBPEL_HIGH_PRECISION» z h = tt
-
-abbrev pub present : ℤ → Bool
-present (pos zero) = false
-present (pos (suc z)) = true
-present (negsuc z) = true
 
 pub component-leads-if : (b : ℕ) (p : MvSubpelPrecision) (d : ℤ) → magnitude d ≤ 16384 → magnitude d % step-of p ≡ 0 → (c : Bool) → c ≡ present d
     → Leads (component-if c b p) (path-if p d) d

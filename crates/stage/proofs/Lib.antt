@@ -1,9 +1,11 @@
 mod Blocks
 mod Calls
 mod Cells
+mod Coding
 mod Contexts
 mod Places
 mod Segments
 mod Skips
 mod Starts
 mod Symbols
+mod Vectors

@@ -1,7 +1,9 @@
 pub mod Cells
+pub mod Coding
 pub mod Contexts
 pub mod Lanes
 pub mod Partitions
 pub mod Places
 pub mod Questions
+pub mod Vectors
 pub mod View

@@ -14,6 +14,7 @@ mod segment;
 mod skip;
 mod start;
 mod symbols;
+mod vector;
 
 /// The partition contexts, a byte for 8 pixels: above the tile, and left of the superblock.
 #[derive(Drop)]

@@ -1,0 +1,151 @@
+ghost use mathlib.Core.Bool.{true};
+ghost use mathlib.Core.List.{List};
+ghost use mathlib.Core.Path.{_≡_};
+ghost use Prim.Native.Nat.{ℕ, _+_, _*_, _<_, _≤_};
+ghost use Rattle.cdf.specs.Layout.{in-layout};
+ghost use Rattle.cdf.specs.Words.{table};
+ghost use Rattle.model.specs.Vector.{bits-tree, bits-of, integer-tree, integer-path, fraction-tree, fraction-path, high-tree, high-path};
+ghost use Rattle.stage.specs.Coding.{moment, Room-for, Coded};
+ghost use Rattle.stage.specs.Vectors.{Component, integer-count, fraction-count, high-count, fraction-first, high-first};
+use crate::state::Stage;
+use av1::MvSubpelPrecision;
+use journal::Log;
+use record::Sink;
+
+// How many symbols code the fraction, and how many the high bit.
+fn fraction_symbols(precision: MvSubpelPrecision) -> usize
+    ensures { λ r. ⌜ r ≡ fraction-count precision ⌝ }
+{
+    match precision {
+        MvSubpelPrecision::MV_SUBPEL_NONE => 0,
+        MvSubpelPrecision::MV_SUBPEL_LOW_PRECISION => 1,
+        MvSubpelPrecision::MV_SUBPEL_HIGH_PRECISION => 1,
+    }
+}
+
+fn high_symbols(precision: MvSubpelPrecision) -> usize
+    ensures { λ r. ⌜ r ≡ high-count precision ⌝ }
+{
+    match precision {
+        MvSubpelPrecision::MV_SUBPEL_NONE => 0,
+        MvSubpelPrecision::MV_SUBPEL_LOW_PRECISION => 0,
+        MvSubpelPrecision::MV_SUBPEL_HIGH_PRECISION => 1,
+    }
+}
+
+// Where the table of the fraction begins, and that of the high bit.
+fn fraction_table(base: usize, class: usize, d: u32) -> usize
+    requires base { ⌜ Component base ⌝ }
+    requires low { ⌜ (class ≡ 0 → d < 2) ⌝ }
+    ensures { λ r. ⌜ r ≡ fraction-first base class d ⌝ }
+{
+    if class == 0 {
+        base + 28 + 4 * d as usize
+    } else {
+        base + 36
+    }
+}
+
+fn high_table(base: usize, class: usize) -> usize
+    requires base { ⌜ Component base ⌝ }
+    ensures { λ r. ⌜ r ≡ high-first base class ⌝ }
+{
+    if class == 0 {
+        base + 2
+    } else {
+        base + 4
+    }
+}
+
+impl Stage {
+    // Codes `n` bits, the lowest first, each by a table of its own from word `first` on.
+    fn code_bits<S: Sink>(
+        &mut self,
+        sink: &mut S,
+        log: &mut Log<'_>,
+        first: usize,
+        n: usize,
+        bits: u32,
+    )
+        requires tables { ⌜ ((k : ℕ) → k < n → in-layout (table (first + 2 * k) 2) ≡ true) ⌝ }
+        requires inside { ⌜ (first + 2 * n ≤ 430) × (n < 32) ⌝ }
+        requires room { ⌜ Room-for n 0 (moment (now self) (now log) (S·Sink .rooms (now sink)) (S·Sink .list (now sink))) ⌝ }
+        ensures { λ _. ⌜ Coded (bits-tree first n) (bits-of n bits) n 0 (moment (now (self .entry)) (now (log .entry)) (S·Sink .rooms (now (sink .entry))) (S·Sink .list (now (sink .entry)))) (moment (now (self .exit)) (now (log .exit)) (S·Sink .rooms (now (sink .exit))) (S·Sink .list (now (sink .exit)))) ⌝ }
+    {
+        for i in 0..n {
+            self.symbol(sink, log, first + 2 * i, 2, ((bits >> i) % 2) as usize);
+        }
+    }
+
+    // Codes the integer part: one symbol in class 0, else as many bits as the class says.
+    fn code_integer<S: Sink>(
+        &mut self,
+        sink: &mut S,
+        log: &mut Log<'_>,
+        base: usize,
+        class: usize,
+        d: u32,
+    )
+        requires base { ⌜ Component base ⌝ }
+        requires class { ⌜ class < 11 ⌝ }
+        requires low { ⌜ (class ≡ 0 → d < 2) ⌝ }
+        requires room { ⌜ Room-for (integer-count class) 0 (moment (now self) (now log) (S·Sink .rooms (now sink)) (S·Sink .list (now sink))) ⌝ }
+        ensures { λ _. ⌜ Coded (integer-tree base class) (integer-path class d) (integer-count class) 0 (moment (now (self .entry)) (now (log .entry)) (S·Sink .rooms (now (sink .entry))) (S·Sink .list (now (sink .entry)))) (moment (now (self .exit)) (now (log .exit)) (S·Sink .rooms (now (sink .exit))) (S·Sink .list (now (sink .exit)))) ⌝ }
+    {
+        if class == 0 {
+            self.symbol(sink, log, base + 6, 2, d as usize);
+        } else {
+            self.code_bits(sink, log, base + 8, class, d);
+        }
+    }
+
+    // Codes the fraction, unless the precision has none.
+    fn code_fraction<S: Sink>(
+        &mut self,
+        sink: &mut S,
+        log: &mut Log<'_>,
+        base: usize,
+        precision: MvSubpelPrecision,
+        class: usize,
+        d: u32,
+        fr: u32,
+    )
+        requires base { ⌜ Component base ⌝ }
+        requires low { ⌜ (class ≡ 0 → d < 2) ⌝ }
+        requires symbol { ⌜ fr < 4 ⌝ }
+        requires room { ⌜ Room-for (fraction-count precision) 0 (moment (now self) (now log) (S·Sink .rooms (now sink)) (S·Sink .list (now sink))) ⌝ }
+        ensures { λ _. ⌜ Coded (fraction-tree base precision class d) (fraction-path precision fr) (fraction-count precision) 0 (moment (now (self .entry)) (now (log .entry)) (S·Sink .rooms (now (sink .entry))) (S·Sink .list (now (sink .entry)))) (moment (now (self .exit)) (now (log .exit)) (S·Sink .rooms (now (sink .exit))) (S·Sink .list (now (sink .exit)))) ⌝ }
+    {
+        if fraction_symbols(precision) == 0 {
+            return;
+        }
+        self.symbol(
+            sink,
+            log,
+            fraction_table(base, class, d),
+            4,
+            fr as usize,
+        );
+    }
+
+    // Codes the high bit, if the precision has one.
+    fn code_high<S: Sink>(
+        &mut self,
+        sink: &mut S,
+        log: &mut Log<'_>,
+        base: usize,
+        precision: MvSubpelPrecision,
+        class: usize,
+        hp: u32,
+    )
+        requires base { ⌜ Component base ⌝ }
+        requires symbol { ⌜ hp < 2 ⌝ }
+        requires room { ⌜ Room-for (high-count precision) 0 (moment (now self) (now log) (S·Sink .rooms (now sink)) (S·Sink .list (now sink))) ⌝ }
+        ensures { λ _. ⌜ Coded (high-tree base precision class) (high-path precision hp) (high-count precision) 0 (moment (now (self .entry)) (now (log .entry)) (S·Sink .rooms (now (sink .entry))) (S·Sink .list (now (sink .entry)))) (moment (now (self .exit)) (now (log .exit)) (S·Sink .rooms (now (sink .exit))) (S·Sink .list (now (sink .exit)))) ⌝ }
+    {
+        if high_symbols(precision) == 0 {
+            return;
+        }
+        self.symbol(sink, log, high_table(base, class), 2, hp as usize);
+    }
+}
