@@ -1,5 +1,5 @@
 -- Symbols coded one after the other.
-use mathlib.Core.Path.{_≡_, refl, sym, ap, ap₂, subst, _∙_}
+use mathlib.Core.Path.{_≡_, refl, sym, ap, ap₂, subst, subst₂, _∙_}
 use mathlib.Core.List.{List, [], _∷_, _++_}
 use Prim.Native.Nat.{ℕ, zero, suc, _+_, _*_, _/_, _%_, _^_, _<_, _≤_}
 use native.Mathlib.Omega.{arith}
@@ -36,6 +36,10 @@ memory-then l m n b a =
 pub coded-none : {D : Type 0} (d : D) (p : List ℕ) (m : Moment) → Coded (done d) p 0 0 m m
 coded-none d p m =
     record { step = λ memory. refl; rooms = refl; left = omega arith; small = omega arith; large = omega arith; memory = same-memory (m .log); trials = refl }
+
+-- the same numbers, written otherwise
+pub recount : {D : Type 0} (t : Syntax D) (p : List ℕ) (few many few′ many′ : ℕ) (m n : Moment) → few ≡ few′ → many ≡ many′ → Coded t p few many m n → Coded t p few′ many′ m n
+recount t p few many few′ many′ m n a b h = subst₂ (λ x y. Coded t p x y m n) a b h
 
 -- one symbol, from what it makes of the stage
 pub coded-small : (first count s : ℕ) (m n : Moment) → count ≤ 4
@@ -89,6 +93,15 @@ coded-by t g p few many m n h =
       large = h .large;
       memory = h .memory;
       trials = h .trials;
+    }
+
+-- room for more is room for less
+pub room-within : (few many few′ many′ : ℕ) (m : Moment) → few ≤ few′ → many ≤ many′ → Room-for few′ many′ m → Room-for few many m
+room-within few many few′ many′ m small large room =
+    record {
+      entries = omega (arith, room .entries);
+      small = λ opened. omega (arith, room .small opened);
+      large = λ opened. omega (arith, room .large opened);
     }
 
 -- the room that is left for what follows

@@ -1,17 +1,25 @@
 -- The parts of a vector's components: their tables, the room that they take, and what was coded of them.
 use mathlib.Core.Logic.{_⊎_, inl, inr}
-use mathlib.Core.Path.{_≡_, refl, sym, ap, subst, _∙_}
-use mathlib.Core.List.{List, [], _∷_}
-use Prim.Native.Nat.{ℕ, zero, suc, _+_, _*_, _<_, _≤_}
+use mathlib.Core.Path.{_≡_, refl, sym, ap, subst, subst₂, _∙_}
+use mathlib.Core.Bool.{cond}
+use mathlib.Core.List.{List, [], _∷_, _++_}
+use Prim.Native.Nat.{ℕ, zero, suc, _+_, _-_, _*_, _/_, _%_, _<_, _≤_}
 use native.Mathlib.Omega.{arith}
+use lib.Dec.{leb, le→leb}
+use lib.IntN.{ℤ, pos, negsuc}
+use Rattle.std.specs.declared.option.Option.{Option}
+use Rattle.std.specs.declared.option.Option.the-variants.{Some, None}
 use Rattle.av1.specs.declared.mv.MvSubpelPrecision.{MvSubpelPrecision}
 use Rattle.av1.specs.declared.mv.MvSubpelPrecision.the-variants as at
-use Rattle.model.specs.Tree.{one}
-use Rattle.model.specs.Vector.{bits-of, bits-tree, fraction-path, fraction-tree, high-path, high-tree, integer-path, integer-tree}
+use Rattle.av1.specs.Vectors.{class-base, class-of, magnitude, nonzero, offset-of, sign-bit, signed}
+use Rattle.cdf.proofs.Booleans.{T→true}
+use Rattle.model.specs.Tree.{Syntax, and-then, one, read-by}
+use Rattle.model.specs.Vector.{Fits, class-width, component-if, component-path, component-tree, fraction-path, fraction-tree, high-path, high-tree, integer-path, integer-tree, path-if, present, step-of}
+use Rattle.model.proofs.Vectors.{Inside, fits-less, inside, leads-fraction, leads-integer}
 use Rattle.model.proofs.TreeTables.{At, Base, base-col, base-row, moved-in-layout}
 use Rattle.stage.specs.Coding.{Coded, Moment, Room-for}
-use Rattle.stage.specs.Vectors.{Component, fraction-count, fraction-first, high-count, high-first, integer-count}
-use Rattle.stage.proofs.Coding.{coded-none}
+use Rattle.stage.specs.Vectors.{Component, component-count, fraction-count, fraction-first, high-count, high-first, integer-count, offset-count, offset-path, offset-tree}
+use Rattle.stage.proofs.Coding.{coded-by, coded-then, recount}
 
 -- the tables of a component
 base-of : (b : ℕ) → Component b → Base b
@@ -60,3 +68,110 @@ pub high-room : (p : MvSubpelPrecision) (m : Moment) → (high-count p ≡ 0 →
 high-room at.«MV_SUBPEL_NONE» m e h = absurd (e refl)
 high-room at.«MV_SUBPEL_LOW_PRECISION» m e h = absurd (e refl)
 high-room at.«MV_SUBPEL_HIGH_PRECISION» m e h = h
+
+-- in class 0 the integer part is below 2
+pub low-offset : (c o : ℕ) → o < class-width c → c ≡ 0 → o / 8 < 2
+low-offset zero o h e = omega arith
+low-offset (suc c) o h e = absurd (omega arith)
+
+-- an offset, part by part
+module _ (b : ℕ) (p : MvSubpelPrecision) (sign c o : ℕ) (inside : o < class-width c) (fine : Fits p o) where
+  abbrev last-tree : ℕ → ℕ → Syntax ℤ
+  last-tree d f = read-by (λ h. signed sign (class-base c + (8 * d + 2 * f + h))) (high-tree b p c)
+
+  pub offset-coded : (m n k l : Moment)
+      → Coded (integer-tree b c) (integer-path c (o / 8)) (integer-count c) 0 m n
+      → Coded (fraction-tree b p c (o / 8)) (fraction-path p ((o / 2) % 4)) (fraction-count p) 0 n k
+      → Coded (high-tree b p c) (high-path p (o % 2)) (high-count p) 0 k l
+      → Coded (offset-tree b p sign c) (offset-path p c o) (offset-count p c) 0 m l
+  offset-coded m n k l whole part last =
+      coded-then (integer-tree b c) (λ d. and-then (fraction-tree b p c d) (last-tree d)) (integer-path c (o / 8)) (fraction-path p ((o / 2) % 4) ++ high-path p (o % 2)) (o / 8)
+      (integer-count c) 0 (fraction-count p + high-count p) 0 m n l (leads-integer b c o inside) whole
+      (coded-then (fraction-tree b p c (o / 8)) (last-tree (o / 8)) (fraction-path p ((o / 2) % 4)) (high-path p (o % 2)) ((o / 2) % 4)
+      (fraction-count p) 0 (high-count p) 0 n k l (leads-fraction b p c (o / 8) o fine) part
+      (coded-by (high-tree b p c) (λ h. signed sign (class-base c + (8 * (o / 8) + 2 * ((o / 2) % 4) + h))) (high-path p (o % 2)) (high-count p) 0 k l last))
+
+-- the magnitude less one, of a component that is not zero
+abbrev less : ℤ → ℕ
+less (pos zero) = 0
+less (pos (suc z)) = z
+less (negsuc z) = z
+
+-- what is known of a component once it is split and its class is found
+pub record Parts (p : MvSubpelPrecision) (d : ℤ) (s c o : ℕ) : Type 0 where
+  pub some : magnitude d ≡ 0 → ⊥
+  pub sign : s ≡ sign-bit d
+  pub class : c ≡ class-of (less d)
+  pub offset : o ≡ offset-of (less d)
+  pub most : c < 11
+  pub within : o < class-width c
+  pub fine : Fits p o
+
+less-one : (d : ℤ) → (magnitude d ≡ 0 → ⊥) → magnitude d ≡ suc (less d)
+less-one (pos zero) h = absurd (h refl)
+less-one (pos (suc z)) h = refl
+less-one (negsuc z) h = refl
+
+abbrev pub Split-as : ℤ → ℕ → ℕ → Type 0
+Split-as d sign mag = _≡_ {A = Option (ℕ × ℕ)} (Some (sign, mag)) (cond (leb (magnitude d) 16384) (Some (sign-bit d, magnitude d)) None)
+
+split-as : (d : ℤ) (sign mag : ℕ) → magnitude d ≤ 16384 → Split-as d sign mag → (sign ≡ sign-bit d) × (mag ≡ magnitude d)
+split-as d sign mag h e = both (e ∙ ap (λ b. cond {A = Option (ℕ × ℕ)} b (Some (sign-bit d, magnitude d)) None) (T→true (leb (magnitude d) 16384) (le→leb (magnitude d) 16384 h)))
+  where
+    both : _≡_ {A = Option (ℕ × ℕ)} (Some (sign, mag)) (Some (sign-bit d, magnitude d)) → (sign ≡ sign-bit d) × (mag ≡ magnitude d)
+    both k = let q : _≡_ {A = ℕ × ℕ} (sign, mag) (sign-bit d, magnitude d) = cc in (ap (λ x. x .0) q, ap (λ x. x .1) q)
+
+pub parts : (p : MvSubpelPrecision) (d : ℤ) (sign mag c o : ℕ) → magnitude d ≤ 16384 → magnitude d % step-of p ≡ 0
+    → Split-as d sign mag → (mag ≡ 0 → ⊥) → c ≡ class-of (mag - 1) → o ≡ offset-of (mag - 1) → Parts p d sign c o
+parts p d sign mag c o range fine split some class offset =
+    let s = split-as d sign mag range split in
+    let more : magnitude d ≡ 0 → ⊥ = λ e. some (s .1 ∙ e) in
+    let above : magnitude d ≡ suc (less d) = less-one d more in
+    let down : mag - 1 ≡ less d = omega (arith, s .1, above) in
+    let i : Inside p (less d) = inside p (less d) (omega arith) (fits-less p (less d) (subst (λ n. n % step-of p ≡ 0) above fine)) in
+    let same-class : c ≡ class-of (less d) = class ∙ ap class-of down in
+    let same-offset : o ≡ offset-of (less d) = offset ∙ ap offset-of down in
+    record {
+      some = more;
+      sign = s .0;
+      class = same-class;
+      offset = same-offset;
+      most = omega (arith, i .class, same-class);
+      within = subst₂ (λ x y. x < class-width y) (sym same-offset) (sym same-class) (i .offset);
+      fine = subst (Fits p) (sym same-offset) (i .fine);
+    }
+
+pub component-room : (p : MvSubpelPrecision) (d : ℤ) (sign c o : ℕ) (m : Moment) → Parts p d sign c o → Room-for (component-count p (magnitude d)) (nonzero d) m
+    → Room-for (1 + offset-count p c) 1 m
+component-room p d sign c o m is room = subst (λ x. Room-for (1 + offset-count p x) 1 m) (sym (is .class)) (shape d (is .some) room)
+  where
+    shape : (d : ℤ) → (magnitude d ≡ 0 → ⊥) → Room-for (component-count p (magnitude d)) (nonzero d) m → Room-for (1 + offset-count p (class-of (less d))) 1 m
+    shape (pos zero) k r = absurd (k refl)
+    shape (pos (suc z)) k r = r
+    shape (negsuc z) k r = r
+
+-- a component that is not zero, part by part
+pub component-coded : (b : ℕ) (p : MvSubpelPrecision) (d : ℤ) (sign c o : ℕ) (m n k l : Moment) → Parts p d sign c o → sign < 2
+    → Coded (one b 2) (sign ∷ []) 1 0 m n
+    → Coded (one (b + 40) 11) (c ∷ []) 0 1 n k
+    → Coded (offset-tree b p sign c) (offset-path p c o) (offset-count p c) 0 k l
+    → Coded (component-if (present d) b p) (path-if p d) (component-count p (magnitude d)) (nonzero d) m l
+component-coded b p d sign c o m n k l is below first next rest = shape d (is .some) (moved sign c o (is .sign) (is .class) (is .offset) whole)
+  where
+    whole : Coded (component-tree b p) (sign ∷ c ∷ offset-path p c o) (1 + offset-count p c) 1 m l
+    whole =
+        recount (component-tree b p) (sign ∷ c ∷ offset-path p c o) (1 + (0 + offset-count p c)) (0 + (1 + 0)) (1 + offset-count p c) 1 m l (omega arith) (omega arith)
+        (coded-then (one b 2) (λ s. and-then (one (b + 40) 11) (offset-tree b p s)) (sign ∷ []) (c ∷ offset-path p c o) sign 1 0 (0 + offset-count p c) (1 + 0) m n l (below, refl) first
+        (coded-then (one (b + 40) 11) (offset-tree b p sign) (c ∷ []) (offset-path p c o) c 0 1 (offset-count p c) 0 n k l (is .most, refl) next rest))
+
+    moved : (s x y : ℕ) → s ≡ sign-bit d → x ≡ class-of (less d) → y ≡ offset-of (less d) → Coded (component-tree b p) (s ∷ x ∷ offset-path p x y) (1 + offset-count p x) 1 m l
+        → Coded (component-tree b p) (component-path p (sign-bit d) (less d)) (1 + offset-count p (class-of (less d))) 1 m l
+    moved s x y e f g h =
+        subst (λ y. Coded (component-tree b p) (sign-bit d ∷ class-of (less d) ∷ offset-path p (class-of (less d)) y) (1 + offset-count p (class-of (less d))) 1 m l) g
+        (subst₂ (λ s x. Coded (component-tree b p) (s ∷ x ∷ offset-path p x y) (1 + offset-count p x) 1 m l) e f h)
+
+    shape : (d : ℤ) → (magnitude d ≡ 0 → ⊥) → Coded (component-tree b p) (component-path p (sign-bit d) (less d)) (1 + offset-count p (class-of (less d))) 1 m l
+        → Coded (component-if (present d) b p) (path-if p d) (component-count p (magnitude d)) (nonzero d) m l
+    shape (pos zero) e h = absurd (e refl)
+    shape (pos (suc z)) e h = h
+    shape (negsuc z) e h = h

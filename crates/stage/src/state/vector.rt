@@ -1,14 +1,17 @@
 ghost use mathlib.Core.Bool.{true};
 ghost use mathlib.Core.List.{List};
 ghost use mathlib.Core.Path.{_≡_};
-ghost use Prim.Native.Nat.{ℕ, _+_, _*_, _<_, _≤_};
+ghost use Prim.Native.Nat.{ℕ, _+_, _*_, _%_, _<_, _≤_};
+ghost use Rattle.av1.specs.Vectors.{magnitude, nonzero};
 ghost use Rattle.cdf.specs.Layout.{in-layout};
 ghost use Rattle.cdf.specs.Words.{table};
-ghost use Rattle.model.specs.Vector.{bits-tree, bits-of, integer-tree, integer-path, fraction-tree, fraction-path, high-tree, high-path};
+ghost use Rattle.model.specs.Vector.{bits-tree, bits-of, integer-tree, integer-path, fraction-tree, fraction-path, high-tree, high-path, class-width, Fits, step-of, present, component-if, path-if};
 ghost use Rattle.stage.specs.Coding.{moment, Room-for, Coded};
-ghost use Rattle.stage.specs.Vectors.{Component, integer-count, fraction-count, high-count, fraction-first, high-first};
+ghost use Rattle.stage.specs.Vectors.{Component, integer-count, fraction-count, high-count, fraction-first, high-first, offset-count, offset-tree, offset-path, component-count};
 use crate::state::Stage;
 use av1::MvSubpelPrecision;
+use av1::mv::get_mv_class;
+use av1::mv::split_component;
 use journal::Log;
 use record::Sink;
 
@@ -33,6 +36,19 @@ fn high_symbols(precision: MvSubpelPrecision) -> usize
     }
 }
 
+// How many symbols code a component of this magnitude, beside its class.
+fn component_symbols(mag: u32, precision: MvSubpelPrecision) -> usize
+    ensures value { λ r. ⌜ r ≡ component-count precision mag ⌝ }
+    ensures most { λ r. ⌜ r ≤ 13 ⌝ }
+{
+    if mag == 0 {
+        return 0;
+    }
+    let (class, _) = get_mv_class(mag - 1);
+    let whole = if class == 0 { 1 } else { class };
+    1 + (whole + (fraction_symbols(precision) + high_symbols(precision)))
+}
+
 // Where the table of the fraction begins, and that of the high bit.
 fn fraction_table(base: usize, class: usize, d: u32) -> usize
     requires base { ⌜ Component base ⌝ }
@@ -50,11 +66,7 @@ fn high_table(base: usize, class: usize) -> usize
     requires base { ⌜ Component base ⌝ }
     ensures { λ r. ⌜ r ≡ high-first base class ⌝ }
 {
-    if class == 0 {
-        base + 2
-    } else {
-        base + 4
-    }
+    if class == 0 { base + 2 } else { base + 4 }
 }
 
 impl Stage {
@@ -119,13 +131,7 @@ impl Stage {
         if fraction_symbols(precision) == 0 {
             return;
         }
-        self.symbol(
-            sink,
-            log,
-            fraction_table(base, class, d),
-            4,
-            fr as usize,
-        );
+        self.symbol(sink, log, fraction_table(base, class, d), 4, fr as usize);
     }
 
     // Codes the high bit, if the precision has one.
@@ -147,5 +153,58 @@ impl Stage {
             return;
         }
         self.symbol(sink, log, high_table(base, class), 2, hp as usize);
+    }
+
+    // Codes an offset in its class: the integer part, the fraction and the high bit.
+    fn code_offset<S: Sink>(
+        &mut self,
+        sink: &mut S,
+        log: &mut Log<'_>,
+        base: usize,
+        precision: MvSubpelPrecision,
+        class: usize,
+        offset: u32,
+    )
+        requires base { ⌜ Component base ⌝ }
+        requires class { ⌜ class < 11 ⌝ }
+        requires offset { ⌜ offset < class-width class ⌝ }
+        requires fine { ⌜ Fits precision offset ⌝ }
+        requires room { ⌜ Room-for (offset-count precision class) 0 (moment (now self) (now log) (S·Sink .rooms (now sink)) (S·Sink .list (now sink))) ⌝ }
+        ensures { λ _. ⌜ ((sign : ℕ) → Coded (offset-tree base precision sign class) (offset-path precision class offset) (offset-count precision class) 0 (moment (now (self .entry)) (now (log .entry)) (S·Sink .rooms (now (sink .entry))) (S·Sink .list (now (sink .entry)))) (moment (now (self .exit)) (now (log .exit)) (S·Sink .rooms (now (sink .exit))) (S·Sink .list (now (sink .exit))))) ⌝ }
+    {
+        let d = offset >> 3;
+        let fr = (offset >> 1) % 4;
+        let hp = offset % 2;
+        self.code_integer(sink, log, base, class, d);
+        self.code_fraction(sink, log, base, precision, class, d, fr);
+        self.code_high(sink, log, base, precision, class, hp);
+    }
+
+    // Codes a component by the tables at word `base`: its sign, the class of its magnitude less one, and the offset
+    // there. One that is zero has no symbols.
+    fn encode_mv_component<S: Sink>(
+        &mut self,
+        sink: &mut S,
+        log: &mut Log<'_>,
+        base: usize,
+        comp: i32,
+        precision: MvSubpelPrecision,
+    )
+        requires base { ⌜ Component base ⌝ }
+        requires range { ⌜ magnitude comp ≤ 16384 ⌝ }
+        requires fine { ⌜ magnitude comp % step-of precision ≡ 0 ⌝ }
+        requires room { ⌜ Room-for (component-count precision (magnitude comp)) (nonzero comp) (moment (now self) (now log) (S·Sink .rooms (now sink)) (S·Sink .list (now sink))) ⌝ }
+        ensures { λ _. ⌜ Coded (component-if (present comp) base precision) (path-if precision comp) (component-count precision (magnitude comp)) (nonzero comp) (moment (now (self .entry)) (now (log .entry)) (S·Sink .rooms (now (sink .entry))) (S·Sink .list (now (sink .entry)))) (moment (now (self .exit)) (now (log .exit)) (S·Sink .rooms (now (sink .exit))) (S·Sink .list (now (sink .exit)))) ⌝ }
+    {
+        let Some((sign, mag)) = split_component(comp) else {
+            unreachable()
+        };
+        if mag == 0 {
+            return;
+        }
+        let (class, offset) = get_mv_class(mag - 1);
+        self.symbol(sink, log, base, 2, sign as usize);
+        self.symbol(sink, log, base + 40, 11, class);
+        self.code_offset(sink, log, base, precision, class, offset);
     }
 }
