@@ -8,4 +8,5 @@ mod Segments
 mod Skips
 mod Starts
 mod Symbols
+mod VectorCalls
 mod Vectors

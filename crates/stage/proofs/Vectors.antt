@@ -1,18 +1,17 @@
 -- The parts of a vector's components: their tables, the room that they take, and what was coded of them.
 use mathlib.Core.Logic.{_⊎_, inl, inr}
 use mathlib.Core.Path.{_≡_, refl, sym, ap, subst, subst₂, _∙_}
-use mathlib.Core.Bool.{cond}
+use mathlib.Core.Bool.{Bool, true, false, cond}
 use mathlib.Core.List.{List, [], _∷_, _++_}
 use Prim.Native.Nat.{ℕ, zero, suc, _+_, _-_, _*_, _/_, _%_, _<_, _≤_}
 use native.Mathlib.Omega.{arith}
-use lib.Dec.{leb, le→leb}
+use lib.Dec.{T, leb, leb→le}
 use lib.IntN.{ℤ, pos, negsuc}
 use Rattle.std.specs.declared.option.Option.{Option}
 use Rattle.std.specs.declared.option.Option.the-variants.{Some, None}
 use Rattle.av1.specs.declared.mv.MvSubpelPrecision.{MvSubpelPrecision}
 use Rattle.av1.specs.declared.mv.MvSubpelPrecision.the-variants as at
 use Rattle.av1.specs.Vectors.{class-base, class-of, magnitude, nonzero, offset-of, sign-bit, signed}
-use Rattle.cdf.proofs.Booleans.{T→true}
 use Rattle.model.specs.Tree.{Syntax, and-then, one, read-by}
 use Rattle.model.specs.Vector.{Fits, class-width, component-if, component-path, component-tree, fraction-path, fraction-tree, high-path, high-tree, integer-path, integer-tree, path-if, present, step-of}
 use Rattle.model.proofs.Vectors.{Inside, fits-less, inside, leads-fraction, leads-integer}
@@ -115,25 +114,26 @@ less-one (negsuc z) h = refl
 abbrev pub Split-as : ℤ → ℕ → ℕ → Type 0
 Split-as d sign mag = _≡_ {A = Option (ℕ × ℕ)} (Some (sign, mag)) (cond (leb (magnitude d) 16384) (Some (sign-bit d, magnitude d)) None)
 
-split-as : (d : ℤ) (sign mag : ℕ) → magnitude d ≤ 16384 → Split-as d sign mag → (sign ≡ sign-bit d) × (mag ≡ magnitude d)
-split-as d sign mag h e = both (e ∙ ap (λ b. cond {A = Option (ℕ × ℕ)} b (Some (sign-bit d, magnitude d)) None) (T→true (leb (magnitude d) 16384) (le→leb (magnitude d) 16384 h)))
+pub split-as : (d : ℤ) (sign mag : ℕ) → Split-as d sign mag → (magnitude d ≤ 16384) × (sign ≡ sign-bit d) × (mag ≡ magnitude d)
+split-as d sign mag e = go (leb (magnitude d) 16384) (leb→le (magnitude d) 16384) e
   where
-    both : _≡_ {A = Option (ℕ × ℕ)} (Some (sign, mag)) (Some (sign-bit d, magnitude d)) → (sign ≡ sign-bit d) × (mag ≡ magnitude d)
-    both k = let q : _≡_ {A = ℕ × ℕ} (sign, mag) (sign-bit d, magnitude d) = cc in (ap (λ x. x .0) q, ap (λ x. x .1) q)
+    go : (b : Bool) → (T b → magnitude d ≤ 16384) → _≡_ {A = Option (ℕ × ℕ)} (Some (sign, mag)) (cond b (Some (sign-bit d, magnitude d)) None) → (magnitude d ≤ 16384) × (sign ≡ sign-bit d) × (mag ≡ magnitude d)
+    go true h k = let q : _≡_ {A = ℕ × ℕ} (sign, mag) (sign-bit d, magnitude d) = cc in (h tt, ap (λ x. x .0) q, ap (λ x. x .1) q)
+    go false h k = absurd (let z : _≡_ {A = ℕ} 0 1 = cc in let y : ⊥ = omega arith in y)
 
-pub parts : (p : MvSubpelPrecision) (d : ℤ) (sign mag c o : ℕ) → magnitude d ≤ 16384 → magnitude d % step-of p ≡ 0
+pub parts : (p : MvSubpelPrecision) (d : ℤ) (sign mag c o : ℕ) → magnitude d % step-of p ≡ 0
     → Split-as d sign mag → (mag ≡ 0 → ⊥) → c ≡ class-of (mag - 1) → o ≡ offset-of (mag - 1) → Parts p d sign c o
-parts p d sign mag c o range fine split some class offset =
-    let s = split-as d sign mag range split in
-    let more : magnitude d ≡ 0 → ⊥ = λ e. some (s .1 ∙ e) in
+parts p d sign mag c o fine split some class offset =
+    let s = split-as d sign mag split in
+    let more : magnitude d ≡ 0 → ⊥ = λ e. some (s .2 ∙ e) in
     let above : magnitude d ≡ suc (less d) = less-one d more in
-    let down : mag - 1 ≡ less d = omega (arith, s .1, above) in
-    let i : Inside p (less d) = inside p (less d) (omega arith) (fits-less p (less d) (subst (λ n. n % step-of p ≡ 0) above fine)) in
+    let down : mag - 1 ≡ less d = omega (arith, s .2, above) in
+    let i : Inside p (less d) = inside p (less d) (omega (arith, s .0)) (fits-less p (less d) (subst (λ n. n % step-of p ≡ 0) above fine)) in
     let same-class : c ≡ class-of (less d) = class ∙ ap class-of down in
     let same-offset : o ≡ offset-of (less d) = offset ∙ ap offset-of down in
     record {
       some = more;
-      sign = s .0;
+      sign = s .1;
       class = same-class;
       offset = same-offset;
       most = omega (arith, i .class, same-class);

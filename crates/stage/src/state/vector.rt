@@ -1,15 +1,23 @@
-ghost use mathlib.Core.Bool.{true};
+ghost use mathlib.Core.Bool.{false, true};
 ghost use mathlib.Core.List.{List};
 ghost use mathlib.Core.Path.{_≡_};
 ghost use Prim.Native.Nat.{ℕ, _+_, _*_, _%_, _<_, _≤_};
+ghost use lib.ListN.{length};
+ghost use Rattle.std.specs.Results.{isOk};
+ghost use Rattle.av1.specs.declared.tile.Cell.{Cell};
 ghost use Rattle.av1.specs.Vectors.{magnitude, nonzero};
 ghost use Rattle.cdf.specs.Layout.{in-layout};
 ghost use Rattle.cdf.specs.Words.{table};
+ghost use Rattle.model.specs.Calls.{decision-step};
+ghost use Rattle.model.specs.declared.Question.the-variants as question;
 ghost use Rattle.model.specs.Vector.{bits-tree, bits-of, integer-tree, integer-path, fraction-tree, fraction-path, high-tree, high-path, class-width, Fits, step-of, present, component-if, path-if};
 ghost use Rattle.stage.specs.Coding.{moment, Room-for, Coded};
+ghost use Rattle.stage.specs.Lanes.{Same-memory};
+ghost use Rattle.stage.specs.View.{world, lanes};
 ghost use Rattle.stage.specs.Vectors.{Component, integer-count, fraction-count, high-count, fraction-first, high-first, offset-count, offset-tree, offset-path, component-count};
 use crate::state::Stage;
 use av1::MvSubpelPrecision;
+use av1::Refusal;
 use av1::mv::get_mv_class;
 use av1::mv::split_component;
 use journal::Log;
@@ -47,6 +55,18 @@ fn component_symbols(mag: u32, precision: MvSubpelPrecision) -> usize
     let (class, _) = get_mv_class(mag - 1);
     let whole = if class == 0 { 1 } else { class };
     1 + (whole + (fraction_symbols(precision) + high_symbols(precision)))
+}
+
+// What the components are multiples of.
+fn mv_step(precision: MvSubpelPrecision) -> u32
+    ensures value { λ r. ⌜ r ≡ step-of precision ⌝ }
+    ensures some { λ r. ⌜ 0 < r ⌝ }
+{
+    match precision {
+        MvSubpelPrecision::MV_SUBPEL_NONE => 8,
+        MvSubpelPrecision::MV_SUBPEL_LOW_PRECISION => 2,
+        MvSubpelPrecision::MV_SUBPEL_HIGH_PRECISION => 1,
+    }
 }
 
 // Where the table of the fraction begins, and that of the high bit.
@@ -206,5 +226,43 @@ impl Stage {
         self.symbol(sink, log, base, 2, sign as usize);
         self.symbol(sink, log, base + 40, 11, class);
         self.code_offset(sink, log, base, precision, class, offset);
+    }
+
+    /// Codes a vector by its difference from the predicted one: its joint, then the row and the column where they are
+    /// not zero. Each lies in -16384..=16384, and is as coarse as the precision: whole pixels are multiples of 8,
+    /// quarters of 2. Answers how many entries were written.
+    pub fn write_mv<S: Sink>(
+        &mut self,
+        sink: &mut S,
+        log: &mut Log<'_>,
+        row: i32,
+        col: i32,
+        precision: MvSubpelPrecision,
+    ) -> Result<usize, Refusal>
+        ensures step { λ r. ⌜ ((memory : List Cell) → (r, world (now (self .exit)) memory (lanes (now (log .exit))) (S·Sink .list (now (sink .exit)))) ≡ decision-step (length memory) (S·Sink .rooms (now (sink .entry))) (question.Vector precision) (row, col) (world (now (self .entry)) memory (lanes (now (log .entry))) (S·Sink .list (now (sink .entry))))) ⌝ }
+        ensures rooms { λ _. ⌜ S·Sink .rooms (now (sink .exit)) ≡ S·Sink .rooms (now (sink .entry)) ⌝ }
+        ensures still { λ r. ⌜ (isOk r ≡ false → (now (sink .exit) ≡ now (sink .entry)) × (now (self .exit) ≡ now (self .entry))) ⌝ }
+        ensures memory { λ _. ⌜ Same-memory (now (log .exit)) (now (log .entry)) ⌝ }
+    {
+        let Some((_, high)) = split_component(row) else {
+            return Err(Refusal::VectorRange);
+        };
+        let Some((_, wide)) = split_component(col) else {
+            return Err(Refusal::VectorRange);
+        };
+        let step = mv_step(precision);
+        if high % step != 0 || wide % step != 0 {
+            return Err(Refusal::VectorPrecision);
+        }
+        let small = 1 + (component_symbols(high, precision) + component_symbols(wide, precision));
+        let rows = (high != 0) as usize;
+        let cols = (wide != 0) as usize;
+        let large = rows + cols;
+        self.journal
+            .ask_record(log, sink.room(), small + large, small, large, 0)?;
+        self.symbol(sink, log, 302, 4, 2 * rows + cols);
+        self.encode_mv_component(sink, log, 318, row, precision);
+        self.encode_mv_component(sink, log, 374, col, precision);
+        Ok(small + large)
     }
 }

@@ -18,7 +18,7 @@ symbol-requires g c κs =
     let split : Split-as (c .args .comp) (c .in-Some .sign) (c .in-Some .mag) = search needs in
     let some : c .in-Some .mag ≡ 0 → ⊥ = search needs in
     let is : Parts (c .args .precision) (c .args .comp) (c .in-Some .sign) class offset =
-    parts (c .args .precision) (c .args .comp) (c .in-Some .sign) (c .in-Some .mag) class offset (c .pre .range) (c .pre .fine) split some
+    parts (c .args .precision) (c .args .comp) (c .in-Some .sign) (c .in-Some .mag) class offset (c .pre .fine) split some
     (c .get-mv-class-class .ensures .class) (c .get-mv-class-class .ensures .offset) in
     let m : Moment = moment (c .args .self .now) (c .args .log .now) (k .rooms (c .args .sink .now)) (k .list (c .args .sink .now)) in
     let room : Room-for (1 + offset-count (c .args .precision) class) 1 m =
@@ -39,7 +39,7 @@ symbol-requires-2 g c κs =
     let split : Split-as (c .args .comp) (c .in-Some .sign) (c .in-Some .mag) = search needs in
     let some : c .in-Some .mag ≡ 0 → ⊥ = search needs in
     let is : Parts (c .args .precision) (c .args .comp) (c .in-Some .sign) class offset =
-    parts (c .args .precision) (c .args .comp) (c .in-Some .sign) (c .in-Some .mag) class offset (c .pre .range) (c .pre .fine) split some
+    parts (c .args .precision) (c .args .comp) (c .in-Some .sign) (c .in-Some .mag) class offset (c .pre .fine) split some
     (c .get-mv-class-class .ensures .class) (c .get-mv-class-class .ensures .offset) in
     let m : Moment = moment (c .args .self .now) (c .args .log .now) (k .rooms (c .args .sink .now)) (k .list (c .args .sink .now)) in
     let n : Moment = moment (c .symbol .last .self) (c .symbol .last .log) (k .rooms (c .symbol .last .sink)) (k .list (c .symbol .last .sink)) in
@@ -65,7 +65,7 @@ code-offset-requires g c κs =
     let split : Split-as (c .args .comp) (c .in-Some .sign) (c .in-Some .mag) = search needs in
     let some : c .in-Some .mag ≡ 0 → ⊥ = search needs in
     let is : Parts (c .args .precision) (c .args .comp) (c .in-Some .sign) class offset =
-    parts (c .args .precision) (c .args .comp) (c .in-Some .sign) (c .in-Some .mag) class offset (c .pre .range) (c .pre .fine) split some
+    parts (c .args .precision) (c .args .comp) (c .in-Some .sign) (c .in-Some .mag) class offset (c .pre .fine) split some
     (c .get-mv-class-class .ensures .class) (c .get-mv-class-class .ensures .offset) in
     let m : Moment = moment (c .args .self .now) (c .args .log .now) (k .rooms (c .args .sink .now)) (k .list (c .args .sink .now)) in
     let n : Moment = moment (c .symbol .last .self) (c .symbol .last .log) (k .rooms (c .symbol .last .sink)) (k .list (c .symbol .last .sink)) in
@@ -96,7 +96,7 @@ returns g c =
     let split : Split-as (c .args .comp) (c .in-Some .sign) (c .in-Some .mag) = search needs in
     let some : c .in-Some .mag ≡ 0 → ⊥ = search needs in
     let is : Parts (c .args .precision) (c .args .comp) (c .in-Some .sign) class offset =
-    parts (c .args .precision) (c .args .comp) (c .in-Some .sign) (c .in-Some .mag) class offset (c .pre .range) (c .pre .fine) split some
+    parts (c .args .precision) (c .args .comp) (c .in-Some .sign) (c .in-Some .mag) class offset (c .pre .fine) split some
     (c .get-mv-class-class .ensures .class) (c .get-mv-class-class .ensures .offset) in
     let m : Moment = moment (c .args .self .now) (c .args .log .now) (k .rooms (c .args .sink .now)) (k .list (c .args .sink .now)) in
     let n : Moment = moment (c .symbol .last .self) (c .symbol .last .log) (k .rooms (c .symbol .last .sink)) (k .list (c .symbol .last .sink)) in
