@@ -1,11 +1,10 @@
 use mathlib.Core.Bool.{true}
 use mathlib.Core.Path.{_≡_, sym, subst}
-use Prim.Native.Nat.{ℕ, _<_}
 use native.Mathlib.Omega.{arith}
 use borrow.Author.Needs.{needs}
 use Rattle.cdf.specs.Layout.{in-layout}
 use Rattle.cdf.specs.Words.{table}
-use Rattle.stage.specs.Coding.{Moment, moment, Room-for}
+use Rattle.stage.specs.Coding.{moment, Room-for}
 use Rattle.stage.specs.Vectors.{fraction-count}
 use Rattle.stage.proofs.Vectors.{fraction-in-layout, fraction-room}
 use Rattle.stage.proofs.state.Stage.code_fraction.Needs as need

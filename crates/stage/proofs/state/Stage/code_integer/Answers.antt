@@ -1,8 +1,8 @@
 use mathlib.Core.Path.{_≡_}
-use Prim.Native.Nat.{ℕ, _<_, _≤_}
+use Prim.Native.Nat.{_≤_}
 use native.Mathlib.Omega.{arith}
 use borrow.Author.Needs.{needs}
-use Rattle.stage.specs.Coding.{Moment, moment, Room-for}
+use Rattle.stage.specs.Coding.{moment, Room-for}
 use Rattle.stage.proofs.Vectors.{component-inside, lowest-in-layout, bits-in-layout, lowest-room, bits-room}
 use Rattle.stage.proofs.state.Stage.code_integer.Needs as need
 

@@ -1,7 +1,5 @@
-use mathlib.Core.Path.{_≡_}
-use Prim.Native.Nat.{ℕ, _+_, _/_, _%_, _<_}
+use Prim.Native.Nat.{ℕ, _+_, _/_, _%_}
 use native.Mathlib.Omega.{arith}
-use borrow.Author.Needs.{needs}
 use Rattle.model.specs.Vector.{integer-tree, integer-path, fraction-tree, fraction-path}
 use Rattle.stage.specs.Coding.{Moment, moment, Room-for}
 use Rattle.stage.specs.Vectors.{integer-count, fraction-count, high-count, offset-count}

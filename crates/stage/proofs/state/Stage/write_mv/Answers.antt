@@ -2,7 +2,7 @@ use mathlib.Core.Logic.{inl, inr}
 use mathlib.Core.Path.{_≡_, refl, sym, ap₂, subst, _∙_}
 use mathlib.Core.Bool.{not}
 use mathlib.Core.List.{_∷_, []}
-use Prim.Native.Nat.{ℕ, _+_, _*_, _%_, _<_, _≤_}
+use Prim.Native.Nat.{ℕ, _+_, _*_, _%_, _≤_}
 use native.Mathlib.Omega.{arith}
 use lib.Dec.{eqb}
 use lib.IntN.{ℤ}
@@ -18,7 +18,7 @@ use Rattle.model.specs.Vector.{component-if, path-if, present, step-of}
 use Rattle.model.proofs.TreeTables.{joints-in-layout}
 use Rattle.stage.specs.Coding.{Coded, Moment, moment, Room-for}
 use Rattle.stage.specs.Vectors.{component-count}
-use Rattle.stage.specs.View.{lanes, state-of, world}
+use Rattle.stage.specs.View.{lanes, state-of}
 use Rattle.stage.proofs.Coding.{coded-small, room-left}
 use Rattle.stage.proofs.Vectors.{Split-as, split-as}
 use Rattle.stage.proofs.VectorCalls.{Taken, taken, vector-small, vector-large, room-asked, vector-coded, refused-range, refused-precision, refused-record, accepted}
