@@ -11,13 +11,10 @@ use script::Answer;
 use script::Answered;
 use script::Call;
 use script::Digest;
-use script::Fault;
 use script::Recorded;
 use script::Script;
-use script::ScriptError;
 use script::StartRefused;
 use script::State;
-use script::fault::ScriptErrorDisplay;
 use script::report::AnsweredDisplay;
 use script::report::RecordedDisplay;
 use script::report::StartRefusedDisplay;
@@ -82,10 +79,13 @@ fn answer<S: Sink>(
             Ok(Answer::Number(n))
         }
         Call::Vector {
-            row: _,
-            col: _,
-            precision: _,
-        } => Ok(Answer::Done),
+            row,
+            col,
+            precision,
+        } => {
+            let n = stage.write_mv(sink, log, row, col, precision)?;
+            Ok(Answer::Number(n))
+        }
         Call::ContextUpdate {
             x,
             y,
@@ -132,10 +132,6 @@ pub fn code(heap: Global, script: &Script) -> Result<String, AnyError> {
         spots: &mut spots,
     };
     for line in script.lines.as_slice() {
-        if let Call::Vector { .. } = line.call {
-            let error = ScriptError::at(heap, line.number, Fault::NotSupported, line.call.word());
-            return Err(error.to_string(heap)?.into());
-        }
         let answer = answer(&mut stage, &mut sink, &mut map, &mut log, line.call);
         writeln!(
             &mut out,

@@ -11,3 +11,4 @@ pub mod Trails
 pub mod TreeTables
 pub mod Trees
 pub mod Vectors
+pub mod Windows

@@ -16,7 +16,7 @@ use Rattle.model.specs.Calls.{By-steps, Steps-then, large-log, log-if, small-l
 use Rattle.model.specs.Coders.{after, edge, entry-of, whole}
 use Rattle.model.specs.Decisions.{Decision, State, add-if, decided, large-of, old-spot, old-spots, path, put-spot, put-spots, small-of, spots, stage, tree, window-at, with-words}
 use Rattle.model.specs.Runs.{Core, Lane, World, ask, done-call}
-use Rattle.model.specs.Tree.{Syntax, coded, done, never, written}
+use Rattle.model.specs.Tree.{Syntax, coded, done, never, read-by, written}
 
 -- A decision is its symbols and then its spots.
 log-on : {R : Type 0} (ms : List Mark) (l : Lane R) (b : Bool) (r : R) (rs : List R) → log-if ms (log-if ms l (add-if b r [])) rs ≡ log-if ms l (add-if b r rs)
@@ -140,3 +140,10 @@ steps-then A B (done c) g (s ∷ p) q a w h = absurd h
 steps-then A B (never n) g p q a w h = absurd h
 steps-then A B (coded k f) g [] q a w h = absurd h
 steps-then A B (coded k f) g (s ∷ p) q a w h = steps-then A B (f s) g p q a (symbol-step k s w) (h .1)
+
+-- what is made of a syntax's decision takes no symbol
+pub steps-by : {A B : Type 0} (t : Syntax A) (g : A → B) (p : List ℕ) (w : World stage) → symbol-steps (read-by g t) p w ≡ symbol-steps t p w
+steps-by (done a) g p w = refl
+steps-by (never n) g p w = refl
+steps-by (coded k f) g [] w = refl
+steps-by (coded k f) g (s ∷ p) w = steps-by (f s) g p (symbol-step k s w)

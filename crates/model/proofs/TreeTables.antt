@@ -34,10 +34,10 @@ use Rattle.model.specs.Decisions.{left-place, longest, State, Tables-in, Trees
 use Rattle.model.specs.Tree.{Syntax, and-then, coded, done, never, one, read-by}
 use Rattle.model.specs.Vector.{bits-tree, component-if, component-tree, fraction-tree, has-col, has-row, high-tree, integer-tree, vector-tree}
 
-abbrev At : ℕ → ℕ → Type 0
+abbrev pub At : ℕ → ℕ → Type 0
 At f n = in-layout (table f n) ≡ true
 
-moved-in-layout : (f g n : ℕ) → f ≡ g → At f n → At g n
+pub moved-in-layout : (f g n : ℕ) → f ≡ g → At f n → At g n
 moved-in-layout f g n e h = subst (λ x. At x n) e h
 
 pub skip-in-layout : (k : ℕ) → k < 3 → At (2 * k) 2
@@ -64,17 +64,17 @@ pub signs-in-layout : At 22 8
 unfolding in-layout table-sizes
 signs-in-layout = refl
 
-joints-in-layout : At 302 4
+pub joints-in-layout : At 302 4
 unfolding in-layout table-sizes
 joints-in-layout = refl
 
 -- the tables of a component
-record Base (b : ℕ) : Type 0 where
-  two : (k : ℕ) → k < 14 → At (b + 2 * k) 2
-  four : (k : ℕ) → k < 3 → At (b + 28 + 4 * k) 4
-  classes : At (b + 40) 11
+pub record Base (b : ℕ) : Type 0 where
+  pub two : (k : ℕ) → k < 14 → At (b + 2 * k) 2
+  pub four : (k : ℕ) → k < 3 → At (b + 28 + 4 * k) 4
+  pub classes : At (b + 40) 11
 
-base-row : Base row-base
+pub base-row : Base row-base
 unfolding in-layout table-sizes
 base-row = record {
   two = true-below 14 (λ k. in-layout (table (row-base + 2 * k) 2)) tt;
@@ -82,7 +82,7 @@ base-row = record {
   classes = refl;
 }
 
-base-col : Base col-base
+pub base-col : Base col-base
 unfolding in-layout table-sizes
 base-col = record {
   two = true-below 14 (λ k. in-layout (table (col-base + 2 * k) 2)) tt;

@@ -1,21 +1,21 @@
 -- A vector's symbols lead to it.
-use mathlib.Core.Path.{_≡_, refl, sym, ap, subst, subst₂, _∙_}
+use mathlib.Core.Path.{_≡_, refl, sym, ap, subst}
 use mathlib.Core.Bool.{Bool, true, false, cond}
-use mathlib.Core.List.{List, [], _∷_, _++_}
+use mathlib.Core.List.{_∷_, _++_}
 use Prim.Native.Nat.{ℕ, zero, suc, _+_, _-_, _*_, _/_, _%_, _^_, _<_, _≤_}
 use native.Mathlib.Nat.{pow-suc, pow-zero}
 use native.Mathlib.Omega.{arith}
 use lib.Dec.{T, ltb, ltb→lt, nltb→le, leb, leb→le, eqb, eqb→eq}
-use mathlib.Core.Bool.{not, _&&_}
+use mathlib.Core.Bool.{not}
 use lib.IntN.{ℤ, pos, negsuc}
 use Rattle.av1.specs.declared.mv.MvSubpelPrecision.{MvSubpelPrecision}
 use Rattle.av1.specs.declared.mv.MvSubpelPrecision.the-variants as at
-use Rattle.av1.specs.Vectors.{class-base, class-from, class-of, magnitude, nonzero, signed}
+use Rattle.av1.specs.Vectors.{class-base, class-from, class-of, magnitude, nonzero, offset-of, signed}
 use Rattle.cdf.proofs.Booleans.{and-first, and-second}
 use Rattle.model.proofs.Trees.{leads-by, leads-then}
 use Rattle.model.specs.Coders.{whole}
 use Rattle.model.specs.Tree.{Leads, and-then, read-by}
-use Rattle.model.specs.Vector.{Component-leads, Fits, bits-of, bits-tree, component-if, component-tree, fits-precision, fraction-path, fraction-tree, has-col, has-row, high-path, high-tree, in-range, integer-path, integer-tree, path-if, step-of, vector-path, vector-tree}
+use Rattle.model.specs.Vector.{Component-leads, Fits, bits-of, bits-tree, class-width, component-if, component-path, component-tree, fits-precision, fraction-path, fraction-tree, has-col, has-row, high-path, high-tree, in-range, integer-path, integer-tree, path-if, present, step-of, vector-path, vector-tree}
 
 -- A component's symbols lead to it.
 leads-bits : (n f v : ℕ) → v < 2 ^ n → Leads (bits-tree f n) (bits-of n v) v
@@ -24,29 +24,24 @@ leads-bits (suc n) f v h =
     let k : v < 2 ^ n * 2 = rw pow-suc at h in
     (omega arith, leads-by (bits-tree (f + 2) n) (λ r. v % 2 + 2 * r) (bits-of n (v / 2)) (v / 2) v (leads-bits n (f + 2) (v / 2) (omega arith)) (omega arith))
 
--- how far the offsets of a class go
-abbrev width : ℕ → ℕ
-width zero = 16
-width (suc c) = 8 * 2 ^ suc c
-
-leads-integer : (b c o : ℕ) → o < width c → Leads (integer-tree b c) (integer-path c (o / 8)) (o / 8)
+pub leads-integer : (b c o : ℕ) → o < class-width c → Leads (integer-tree b c) (integer-path c (o / 8)) (o / 8)
 leads-integer b zero o h = (omega arith, refl)
 leads-integer b (suc c) o h = leads-bits (suc c) (b + 8) (o / 8) (omega arith)
 
-leads-fraction : (b : ℕ) (p : MvSubpelPrecision) (c d o : ℕ) → Fits p o → Leads (fraction-tree b p c d) (fraction-path p ((o / 2) % 4)) ((o / 2) % 4)
+pub leads-fraction : (b : ℕ) (p : MvSubpelPrecision) (c d o : ℕ) → Fits p o → Leads (fraction-tree b p c d) (fraction-path p ((o / 2) % 4)) ((o / 2) % 4)
 leads-fraction b at.«MV_SUBPEL_NONE» c d o h = omega arith
 leads-fraction b at.«MV_SUBPEL_LOW_PRECISION» zero d o h = (omega arith, refl)
 leads-fraction b at.«MV_SUBPEL_HIGH_PRECISION» zero d o h = (omega arith, refl)
 leads-fraction b at.«MV_SUBPEL_LOW_PRECISION» (suc c) d o h = (omega arith, refl)
 leads-fraction b at.«MV_SUBPEL_HIGH_PRECISION» (suc c) d o h = (omega arith, refl)
 
-leads-high : (b : ℕ) (p : MvSubpelPrecision) (c o : ℕ) → Fits p o → Leads (high-tree b p c) (high-path p (o % 2)) (o % 2)
+pub leads-high : (b : ℕ) (p : MvSubpelPrecision) (c o : ℕ) → Fits p o → Leads (high-tree b p c) (high-path p (o % 2)) (o % 2)
 leads-high b at.«MV_SUBPEL_NONE» c o h = omega arith
 leads-high b at.«MV_SUBPEL_LOW_PRECISION» c o h = omega arith
 leads-high b at.«MV_SUBPEL_HIGH_PRECISION» zero o h = (omega arith, refl)
 leads-high b at.«MV_SUBPEL_HIGH_PRECISION» (suc c) o h = (omega arith, refl)
 
-leads-component : (b : ℕ) (p : MvSubpelPrecision) (sign c o : ℕ) → sign < 2 → c < 11 → o < width c → Fits p o
+leads-component : (b : ℕ) (p : MvSubpelPrecision) (sign c o : ℕ) → sign < 2 → c < 11 → o < class-width c → Fits p o
     → Leads (component-tree b p) (sign ∷ c ∷ (integer-path c (o / 8) ++ (fraction-path p ((o / 2) % 4) ++ high-path p (o % 2)))) (signed sign (class-base c + o))
 leads-component b p sign c o hs hc ho fits =
     let d : ℕ = o / 8 in
@@ -81,7 +76,7 @@ class-in m (suc n) c z e h k = go (ltb z (8 * 2 ^ suc c)) (ltb→lt z (8 * 2 ^ s
     go true l g r = (h, l tt, omega arith)
     go false l g r = r (g tt)
 
-offset-within : (k z : ℕ) → class-base k ≤ z → z < 8 * 2 ^ suc k → z - class-base k < width k
+offset-within : (k z : ℕ) → class-base k ≤ z → z < 8 * 2 ^ suc k → z - class-base k < class-width k
 offset-within zero z h l = let e : z < 16 = l in omega arith
 offset-within (suc k) z h l = let e : 2 ^ suc (suc k) ≡ 2 ^ suc k * 2 = pow-suc 2 (suc k) in omega arith
 
@@ -92,33 +87,37 @@ base-fits at.«MV_SUBPEL_LOW_PRECISION» zero z h f = omega arith
 base-fits at.«MV_SUBPEL_LOW_PRECISION» (suc k) z h f = omega arith
 base-fits at.«MV_SUBPEL_HIGH_PRECISION» k z h f = tt
 
-pub component-leads : Component-leads
+class-within : (z : ℕ) → z < 16384 → In-class 10 z (class-of z)
 unfolding class-of
+class-within z h = class-in 10 10 0 z (omega arith) (omega arith) h
+
+-- the class, and what the offset there keeps
+pub record Inside (p : MvSubpelPrecision) (z : ℕ) : Type 0 where
+  pub class : class-of z < 11
+  pub starts : class-base (class-of z) ≤ z
+  pub offset : offset-of z < class-width (class-of z)
+  pub fine : Fits p (offset-of z)
+
+pub inside : (p : MvSubpelPrecision) (z : ℕ) → z < 16384 → Fits p z → Inside p z
+inside p z hz fits =
+    let i : In-class 10 z (class-of z) = class-within z hz in
+    record { class = omega (arith, i .2); starts = i .0; offset = offset-within (class-of z) z (i .0) (i .1); fine = base-fits p (class-of z) z (i .0) fits }
+
+pub component-leads : Component-leads
 component-leads b p sign z hs hz fits =
-    let i : In-class 10 z (class-of z) = class-in 10 10 0 z (omega arith) (omega arith) hz in
-    whole-part (class-of z) i
+    let i : Inside p z = inside p z hz fits in
+    subst (λ x. Leads (component-tree b p) (component-path p sign z) (signed sign x)) (sums (i .starts)) (leads-component b p sign (class-of z) (offset-of z) hs (i .class) (i .offset) (i .fine))
   where
-    whole-part : (k : ℕ) → In-class 10 z k
-        → Leads (component-tree b p) (sign ∷ k ∷ (integer-path k ((z - class-base k) / 8) ++ (fraction-path p (((z - class-base k) / 2) % 4) ++ high-path p ((z - class-base k) % 2)))) (signed sign z)
-    whole-part k i =
-        subst (λ x. Leads (component-tree b p) (sign ∷ k ∷ (integer-path k ((z - class-base k) / 8) ++ (fraction-path p (((z - class-base k) / 2) % 4) ++ high-path p ((z - class-base k) % 2)))) (signed sign x)) sums
-        (leads-component b p sign k (z - class-base k) hs (omega arith) (offset-within k z (i .0) (i .1)) (base-fits p k z (i .0) fits))
-      where
-        sums : class-base k + (z - class-base k) ≡ z
-        sums = omega arith
+    sums : class-base (class-of z) ≤ z → class-base (class-of z) + offset-of z ≡ z
+    sums h = omega arith
 
 -- whole vectors
-fits-less : (p : MvSubpelPrecision) (z : ℕ) → suc z % step-of p ≡ 0 → Fits p z
+pub fits-less : (p : MvSubpelPrecision) (z : ℕ) → suc z % step-of p ≡ 0 → Fits p z
 fits-less at.«MV_SUBPEL_NONE» z h = omega arith
 fits-less at.«MV_SUBPEL_LOW_PRECISION» z h = omega arith
 fits-less at.«MV_SUBPEL_HIGH_PRECISION» z h = tt
 
-abbrev present : ℤ → Bool
-present (pos zero) = false
-present (pos (suc z)) = true
-present (negsuc z) = true
-
-component-leads-if : (b : ℕ) (p : MvSubpelPrecision) (d : ℤ) → magnitude d ≤ 16384 → magnitude d % step-of p ≡ 0 → (c : Bool) → c ≡ present d
+pub component-leads-if : (b : ℕ) (p : MvSubpelPrecision) (d : ℤ) → magnitude d ≤ 16384 → magnitude d % step-of p ≡ 0 → (c : Bool) → c ≡ present d
     → Leads (component-if c b p) (path-if p d) d
 component-leads-if b p (pos zero) h k false e = refl
 component-leads-if b p (pos zero) h k true e = absurd (true-false e)
@@ -130,7 +129,7 @@ component-leads-if b p (pos (suc z)) h k false e = absurd (subst T (sym e) tt)
 component-leads-if b p (negsuc z) h k true e = component-leads b p 1 z (omega arith) (omega arith) (fits-less p z k)
 component-leads-if b p (negsuc z) h k false e = absurd (subst T (sym e) tt)
 
-joint-row : (row col : ℤ) → has-row (2 * nonzero row + nonzero col) ≡ present row
+pub joint-row : (row col : ℤ) → has-row (2 * nonzero row + nonzero col) ≡ present row
 joint-row (pos zero) (pos zero) = refl
 joint-row (pos zero) (pos (suc b)) = refl
 joint-row (pos zero) (negsuc b) = refl
@@ -141,7 +140,7 @@ joint-row (negsuc a) (pos zero) = refl
 joint-row (negsuc a) (pos (suc b)) = refl
 joint-row (negsuc a) (negsuc b) = refl
 
-joint-col : (row col : ℤ) → has-col (2 * nonzero row + nonzero col) ≡ present col
+pub joint-col : (row col : ℤ) → has-col (2 * nonzero row + nonzero col) ≡ present col
 joint-col (pos zero) (pos zero) = refl
 joint-col (pos zero) (pos (suc b)) = refl
 joint-col (pos zero) (negsuc b) = refl
@@ -152,7 +151,7 @@ joint-col (negsuc a) (pos zero) = refl
 joint-col (negsuc a) (pos (suc b)) = refl
 joint-col (negsuc a) (negsuc b) = refl
 
-joint-below : (row col : ℤ) → 2 * nonzero row + nonzero col < 4
+pub joint-below : (row col : ℤ) → 2 * nonzero row + nonzero col < 4
 joint-below row col = let a : nonzero row ≤ 1 = at-most row in let b : nonzero col ≤ 1 = at-most col in omega arith
   where
     at-most : (d : ℤ) → nonzero d ≤ 1

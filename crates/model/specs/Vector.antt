@@ -2,7 +2,7 @@
 use mathlib.Core.Path.{_≡_}
 use mathlib.Core.Bool.{Bool, true, false, _&&_, _||_}
 use mathlib.Core.List.{List, [], _∷_, _++_}
-use Prim.Native.Nat.{ℕ, zero, suc, _+_, _*_, _/_, _%_, _<_}
+use Prim.Native.Nat.{ℕ, zero, suc, _+_, _*_, _/_, _%_, _^_, _<_}
 use lib.Dec.{leb, eqb}
 use lib.IntN.{ℤ, pos, negsuc}
 use Rattle.av1.specs.declared.mv.MvSubpelPrecision.{MvSubpelPrecision}
@@ -63,6 +63,11 @@ component-path p sign z =
     let o : ℕ = offset-of z in
     sign ∷ class-of z ∷ (integer-path (class-of z) (o / 8) ++ (fraction-path p ((o / 2) % 4) ++ high-path p (o % 2)))
 
+-- how far the offsets of a class go
+abbrev pub class-width : ℕ → ℕ
+class-width zero = 16
+class-width (suc c) = 8 * 2 ^ suc c
+
 -- what a precision takes, of a magnitude less one
 abbrev pub Fits : MvSubpelPrecision → ℕ → Type 0
 Fits at.«MV_SUBPEL_NONE» z = z % 8 ≡ 7
@@ -78,6 +83,11 @@ has-row j = eqb j 2 || eqb j 3
 
 abbrev pub has-col : ℕ → Bool
 has-col j = eqb j 1 || eqb j 3
+
+abbrev pub present : ℤ → Bool
+present (pos zero) = false
+present (pos (suc z)) = true
+present (negsuc z) = true
 
 abbrev pub component-if : Bool → ℕ → MvSubpelPrecision → Syntax ℤ
 component-if true b p = component-tree b p

@@ -2,6 +2,7 @@ mod Alphas
 mod Blocks
 mod Calls
 mod Cells
+mod Coding
 mod Contexts
 mod Partitions
 mod Places
@@ -9,3 +10,5 @@ mod Segments
 mod Skips
 mod Starts
 mod Symbols
+mod VectorCalls
+mod Vectors

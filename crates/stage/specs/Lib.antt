@@ -1,8 +1,10 @@
 pub mod Alphas
 pub mod Cells
+pub mod Coding
 pub mod Contexts
 pub mod Lanes
 pub mod Partitions
 pub mod Places
 pub mod Questions
+pub mod Vectors
 pub mod View

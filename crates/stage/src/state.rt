@@ -16,6 +16,7 @@ mod skip;
 mod start;
 mod symbols;
 mod update;
+mod vector;
 
 /// The partition contexts, a byte for 8 pixels: above the tile, and left of the superblock.
 #[derive(Drop)]
