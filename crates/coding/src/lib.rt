@@ -1,3 +1,4 @@
+//! Codes a script of calls: what is to be printed for it.
 use av1::Cell;
 use av1::Refusal;
 use journal::Log;
