@@ -1,4 +1,6 @@
 //! The AV1 standard's vocabulary: block sizes, partitions, chroma alphas, vector components, the tile with its cells and their neighbours, and the refusals of every call.
+#![tactic(auto)]
+
 pub mod cfl;
 pub mod mv;
 pub mod partition;

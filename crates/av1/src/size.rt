@@ -56,7 +56,7 @@ const partition_context_lookup: [[u8; 2]; 22] = [
 
 /// The whole table is the rule of the bytes, at every size in order.
 pub fn lookup_follows_the_rule() -> u8
-    ensures* { do ⌜ (← (⟦partition_context_lookup⟧).entry) ≡ map context_bytes all_sizes ⌝ }
+    ensures { partition_context_lookup ≡ map context_bytes all_sizes }
 {
     0
 }

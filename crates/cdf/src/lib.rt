@@ -1,4 +1,6 @@
 //! The tables of cumulative values that symbols are coded by: 430 words, their layout, and how a symbol adapts its table.
+#![tactic(auto)]
+
 pub mod adapt;
 pub mod entry;
 mod layout;

@@ -1,4 +1,6 @@
 //! Codes a script of calls: what is to be printed for it.
+#![tactic(auto)]
+
 use av1::{Cell, Refusal};
 use journal::{Log, Spot, Window};
 use record::pack::packed_bytes;

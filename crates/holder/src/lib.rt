@@ -1,5 +1,7 @@
 //! A caller that holds its trial in an `Option`. The check refuses it where the trial is forgotten, or taken back after
 //! it was kept.
+#![tactic(auto)]
+
 ghost use Rattle.std.specs.Prelude.{◌≡◌, ℕ, true, List, length, is_some, IfErr, Some, None};
 ghost use Rattle.holder.specs.Held.{depth_held};
 ghost use Rattle.av1.specs.declared.tile.Cell.{Cell};

@@ -1,4 +1,6 @@
 //! What a trial logs so that it can be taken back: undo records, the lanes that hold them, and the marks of open trials.
+#![tactic(auto)]
+
 pub mod spots;
 pub mod walk;
 pub mod windows;

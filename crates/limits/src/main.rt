@@ -1,5 +1,7 @@
 //! Codes the scripts of a table, and holds what is printed for each to what the table says. It prints how many scripts
 //! came out as they should; each difference is printed before that, and then the program ends with status 1.
+#![tactic(auto)]
+
 mod table;
 
 use crate::table::{Case, cases};

@@ -1,5 +1,7 @@
 //! What the block decisions of a tile mean as symbols, and the laws over whole runs of calls.
 //! Only the types are code; each theorem is the contract of a function that does nothing.
+#![tactic(auto)]
+
 ghost use Rattle.std.specs.Prelude.{ℕ, Bool, ℤ};
 ghost use Rattle.model.specs.Calls.{BySteps, StepsThen, SkippedAlike};
 ghost use Rattle.model.specs.Decisions.{stage, TreesInLayout};

@@ -1,4 +1,6 @@
 //! Records of entries: what every sink promises, and the word record.
+#![tactic(auto)]
+
 pub mod pack;
 pub mod sink;
 pub mod word;

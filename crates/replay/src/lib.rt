@@ -1,4 +1,6 @@
 //! Whole lists of calls, made one after the other, and what holds of any such list.
+#![tactic(auto)]
+
 pub mod call;
 pub mod write;
 

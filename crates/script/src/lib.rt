@@ -1,4 +1,6 @@
 //! Scripts of calls: their text, the lines that a run prints, and the digest of a state.
+#![tactic(auto)]
+
 pub mod digest;
 pub mod fault;
 mod head;

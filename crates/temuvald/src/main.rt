@@ -1,5 +1,7 @@
 //! Codes a script of calls, and prints what each call answered, how large the record is, and a digest of the final
 //! state. The script is the file that is named, or else the standard input.
+#![tactic(auto)]
+
 use anyhow::anyhow;
 use coding::code;
 use script::parse::parse;
