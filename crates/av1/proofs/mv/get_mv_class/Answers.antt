@@ -9,15 +9,15 @@ class : (c : goal.Joined-z-ge8192) → Class c.args.z c.if-z-ge8192.c
 class c =
     elim c.if-z-ge8192.branch [
       | then-z-ge8192 w ↦ subst (λ l. Class c.args.z l) (sym w.c-is) (class_ten c.args.z w.if-z-ge8192.true)
-      | else-z-ge8192 w ↦ subst (λ l. Class c.args.z l) (sym w.c-is) (class_of_log c.args.z _ w.if-z-ge8192.false (w.log-in-base-2.ensures.zero, w.log-in-base-2.ensures.within))
+      | else-z-ge8192 w ↦ subst (λ l. Class c.args.z l) (sym w.c-is) (class_of_log c.args.z _ w.if-z-ge8192.false (w.log_in_base_2.ensures.zero, w.log_in_base_2.ensures.within))
     ]
 
-pub mv-class-base-requires : goal.mv-class-base-requires
-mv-class-base-requires c = (class c).0
+pub mv_class_base-requires : goal.mv_class_base-requires
+mv_class_base-requires c = (class c).0
 
 pub returns : goal.returns
 returns c =
     let k = class (goal.at.returns c).Joined-z-ge8192 in
     let z : ℕ = c.args.z in
     let is : class_of z ≡ c.if-z-ge8192.c = class_is z c.if-z-ge8192.c k in
-    record { class = sym is; offset = ap (λ b. z - b) (c.mv-class-base.ensures ∙ ap class_base (sym is)); most = k.0 }
+    record { class = sym is; offset = ap (λ b. z - b) (c.mv_class_base.ensures ∙ ap class_base (sym is)); most = k.0 }

@@ -5,6 +5,6 @@ use Rattle.av1.proofs.tile.Tile.has_cols.Goals as goal
 
 pub returns-then-x-self : goal.returns-then-x-self
 returns-then-x-self c =
-    let half : c.width-mi-half.result / 2 ≡ width c.args.bsize / 8 = omega (arith, c.width-mi-half.ensures.value) in
+    let half : c.width_mi-half.result / 2 ≡ width c.args.bsize / 8 = omega (arith, c.width_mi-half.ensures.value) in
     let inside : c.args.x < c.args.self.now.cols = search rules in
-    left_of_side c.args.self.now.cols c.args.x c.width-mi-half.result (width c.args.bsize / 8) inside half
+    left_of_side c.args.self.now.cols c.args.x c.width_mi-half.result (width c.args.bsize / 8) inside half
