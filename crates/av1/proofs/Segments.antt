@@ -1,5 +1,5 @@
 -- The inverse undoes the interleaving of segments, for any number of them.
-use Rattle.std.proofs.Common.{◌≡◌, ℕ, zero, suc, ◌+◌, ◌-◌, ◌*◌, ◌/◌, ◌%◌, ◌<◌, ◌≤◌, Bool, true, false, cond, not, T, eqb, ltb, leb, ℤ, pos, negsuc, sym, refl, ap, ◌∙◌, subst, arith, le→leb, eqb→eq, ltb→lt, leb→le, nltb→le, T_not}
+use Rattle.std.proofs.Common.{◌≡◌, ℕ, suc, ◌+◌, ◌-◌, ◌*◌, ◌/◌, ◌%◌, ◌<◌, ◌≤◌, Bool, true, false, cond, not, T, eqb, ltb, leb, ℤ, pos, negsuc, refl, ap, ◌∙◌, subst, arith, eqb→eq, ltb→lt, leb→le, nltb→le, T_not}
 use lib.Dec.{nleb→lt, eqb_refl}
 use lib.IntN.{sub_ℕ}
 use Rattle.av1.specs.Segments.{SegmentBack, SegmentWithin, SegmentExact, deinterleaved, deinterleaved_int, interleaved, segment_of, zigzag_back, zigzag_back_int, zigzag}

@@ -1,11 +1,11 @@
 -- A symbol leaves a lawful table lawful, whatever its number of symbols.
-use Rattle.std.proofs.Common.{◌≡◌, ℕ, zero, suc, ◌+◌, ◌-◌, ◌*◌, ◌/◌, ◌^◌, ◌<◌, ◌≤◌, min, Bool, true, false, cond, not, T, eqb, ltb, List, [], ◌∷◌, length, get_or, set, sym, refl, ap, ◌∙◌, subst, ap₂, div-lt_iff_lt-mul, add-mul, mul-le-mul_left, one-mul, mul-one, div-le_self, arith, eqb→eq, ltb→lt, lt→ltb, ext_get_or, pow_pos, pow_mono}
+use Rattle.std.proofs.Common.{◌≡◌, ℕ, zero, suc, ◌+◌, ◌-◌, ◌*◌, ◌/◌, ◌^◌, ◌<◌, ◌≤◌, min, Bool, true, false, cond, T, eqb, ltb, List, [], ◌∷◌, length, get_or, set, sym, refl, ap, ◌∙◌, subst, ap₂, div-lt_iff_lt-mul, add-mul, mul-le-mul_left, one-mul, div-le_self, arith, eqb→eq, ltb→lt, lt→ltb, ext_get_or, pow_pos, pow_mono}
 use native.Mathlib.Decide.{ℕ_discrete, dec_le}
 use native.Mathlib.Nat.{div-eq_of_lt, lt-div-mul-add}
 use lib.Dec.{eqb_refl}
 use Rattle.std.proofs.lemmas.List.{length-set, get_or-set_same, get_or-set_other}
 use Rattle.cdf.proofs.Booleans.{T→true, not-T→false, same_test}
-use Rattle.cdf.specs.Words.{moved, counted, moved_from, adapted, rate, Descends, LawfulTable, TableStaysLawful}
+use Rattle.cdf.specs.Words.{moved, counted, moved_from, adapted, rate, Descends, TableStaysLawful}
 
 -- a value of 16 bits is 0 after any shift by 16 or more
 pub shift_capped : (v r : ℕ) → v < 65536 → v / 2 ^ min r 16 ≡ v / 2 ^ r

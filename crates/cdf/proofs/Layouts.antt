@@ -3,7 +3,7 @@ use Rattle.std.proofs.Common.{◌≡◌, ℕ, zero, suc, ◌+◌, ◌-◌, ◌<�
 use native.Mathlib.Decide.{dec_lt}
 use lib.Seq.{sets, length-sets}
 use Rattle.std.proofs.lemmas.List.{length-take, length-drop, get_or_past}
-use Rattle.cdf.specs.Layout.{words_in_all, tables, small_tables, large_tables, fillers, descends, all_descend, all_zero, lawful, table_sizes, in_layout, SoundWords, WordsStaySound}
+use Rattle.cdf.specs.Layout.{words_in_all, tables, small_tables, large_tables, fillers, descends, all_descend, all_zero, lawful, table_sizes, in_layout, WordsStaySound}
 use Rattle.cdf.specs.Lists.{Each}
 use Rattle.cdf.specs.Words.{Words, Table, table, words_of, updated, adapted, LawfulTable, Descends}
 use Rattle.cdf.proofs.Adapting.{table_stays_lawful, length_moved}

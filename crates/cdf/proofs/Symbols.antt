@@ -1,10 +1,10 @@
 -- A table lent as a part of the words: what its adaptation makes of all of them.
-use Rattle.std.proofs.Common.{◌≡◌, ℕ, ◌+◌, ◌-◌, ◌≤◌, true, List, ◌++◌, length, take, drop, sym, ap, ◌∙◌, ap₂, arith}
+use Rattle.std.proofs.Common.{◌≡◌, ℕ, ◌+◌, ◌-◌, ◌≤◌, true, List, ◌++◌, length, take, drop, sym, ap, ◌∙◌, arith}
 use lib.Seq.{sets}
 use borrow.Rule.Slice.PartMut.{put_mid, mid_of}
 use Rattle.std.proofs.lemmas.List.{drop-drop, length-take, length-drop}
 use Rattle.cdf.specs.declared.entry.Entry.{Entry}
-use Rattle.cdf.specs.Layout.{in_layout, SoundWords, words_in_all}
+use Rattle.cdf.specs.Layout.{in_layout, words_in_all}
 use Rattle.cdf.specs.Words.{Words, Table, table, words_of, adapted, updated, entry_at}
 use Rattle.cdf.proofs.Adapting.{length_moved}
 use Rattle.cdf.proofs.Layouts.{table_inside}

@@ -1,12 +1,12 @@
 -- Whether words stay lawful with a window put in is seen at the window and the word behind it.
-use Rattle.std.proofs.Common.{◌≡◌, ℕ, zero, suc, ◌+◌, ◌-◌, ◌<◌, ◌≤◌, min, Bool, true, cond, ◌&&◌, T, leb, ◌⊎◌, List, ◌++◌, length, get_or, take, drop, sym, refl, ap, ◌∙◌, subst, ap₂, inl, inr, arith, le→leb}
+use Rattle.std.proofs.Common.{◌≡◌, ℕ, zero, suc, ◌+◌, ◌-◌, ◌<◌, ◌≤◌, min, Bool, true, cond, ◌&&◌, ◌⊎◌, List, ◌++◌, length, get_or, take, drop, sym, refl, ap, ◌∙◌, subst, ap₂, inl, inr, arith, le→leb}
 use borrow.Rule.Slice.PartMut.{put_mid}
 use lib.Seq.{sets, length-sets}
 use Rattle.std.proofs.lemmas.List.{drop-drop}
 use Rattle.cdf.specs.Layout.{lawful, words_in_all, SoundWords}
 use Rattle.cdf.specs.Limits.{limits, keeps_to, word_before, fits_at, all_from}
 use Rattle.cdf.specs.Words.{Words}
-use Rattle.cdf.specs.Windows.{taken_window, put_window}
+use Rattle.cdf.specs.Windows.{put_window}
 use Rattle.cdf.proofs.Booleans.{true→T, T→true, and_true}
 use Rattle.cdf.proofs.WordByWord.{lawful_by_limits}
 use Rattle.cdf.proofs.Runs.{all_local, all_step, all_none}

@@ -1,6 +1,5 @@
 -- Words are lawful exactly where each of them keeps to its limit.
-use Rattle.std.proofs.Common.{◌≡◌, ℕ, zero, suc, ◌+◌, ◌-◌, ◌<◌, ◌≤◌, Bool, true, false, ◌&&◌, ◌||◌, T, eqb, ltb, leb, List, [], ◌∷◌, ◌++◌, length, get_or, take, drop, sym, refl, ap, ◌∙◌, subst, ap₂, arith, le→leb, eqb→eq, ltb→lt, leb→le, drop-cons}
-use lib.Dec.{eqb_refl}
+use Rattle.std.proofs.Common.{◌≡◌, ℕ, zero, suc, ◌+◌, ◌-◌, ◌≤◌, Bool, true, false, ◌&&◌, ◌||◌, T, eqb, ltb, leb, List, [], ◌∷◌, ◌++◌, length, get_or, take, drop, sym, refl, ap, ◌∙◌, subst, ap₂, arith, le→leb, eqb→eq, ltb→lt, leb→le, drop-cons}
 use Rattle.cdf.specs.Layout.{words_in_all, tables, small_tables, large_tables, fillers, descends, all_descend, all_zero, lawful}
 use Rattle.cdf.specs.Limits.{as_before, limits, keeps_to, word_before, fits_at, all_from, LawfulByLimits}
 use Rattle.cdf.specs.Words.{Words, Table, words_of}

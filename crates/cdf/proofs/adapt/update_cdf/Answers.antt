@@ -1,4 +1,4 @@
-use Rattle.std.proofs.Common.{◌≡◌, ℕ, ◌+◌, ◌-◌, ◌/◌, ◌<◌, ◌≤◌, ltb, ◌≢◌, List, length, get_or, set, sym, ap, ◌∙◌, subst, arith, get_or-set_other, get_or-set_same, rules, below_more}
+use Rattle.std.proofs.Common.{◌≡◌, ℕ, ◌+◌, ◌-◌, ◌/◌, ◌<◌, ltb, ◌≢◌, List, length, get_or, set, sym, ap, ◌∙◌, subst, arith, get_or-set_other, get_or-set_same, rules, below_more}
 use Rattle.cdf.specs.Words.{moved, adapted, counted, LawfulTable}
 use Rattle.cdf.proofs.Adapting.{adapted_none, adapted_by, table_stays_lawful}
 use Rattle.cdf.proofs.adapt.update_cdf.Goals as goal

@@ -1,4 +1,4 @@
-use Rattle.std.proofs.Common.{◌≡◌, true, sym, ◌∙◌, rules}
+use Rattle.std.proofs.Common.{◌≡◌, sym, ◌∙◌, rules}
 use Rattle.cdf.specs.Layout.{in_layout}
 use Rattle.cdf.specs.Words.{table}
 use Rattle.cdf.proofs.Layouts.{table_inside, table_most}
@@ -7,7 +7,7 @@ use Rattle.cdf.proofs.layout.has_table.Goals as goal
 pub returns-then-n-gt0 : goal.returns-then-n-gt0
 unfolding in_layout
 returns-then-n-gt0 c =
-    let value : lib.Dec.eqb c.table-size.result c.args.n ≡ in_layout (table c.args.first c.args.n) = search rules in
+    let value : lib.Dec.eqb c.table_size.result c.args.n ≡ in_layout (table c.args.first c.args.n) = search rules in
     record {
       value = value;
       inside = λ e. (table_inside (table c.args.first c.args.n) (sym value ∙ e), table_most (table c.args.first c.args.n) (sym value ∙ e));

@@ -11,8 +11,8 @@ loop-i-preserved g c =
     let i : ℕ = c.loop-i.i in
     let here : i < length l = omega (arith, c.count-i-end.ensures) in
     let entry : c.in-Ok.e ≡ get_or l i no_entry = search rules in (
-      ap₂ (λ a b. a + b) c.loop-i.invariant.0 (c.packed-len-bytes.ensures.value ∙ ap (λ e. length (packed_entry e)) entry) ∙ sym (bytes_more l i here),
-      omega (arith, c.loop-i.invariant.1, c.packed-len-bytes.ensures.most),
+      ap₂ (λ a b. a + b) c.loop-i.invariant.0 (c.packed_len-bytes.ensures.value ∙ ap (λ e. length (packed_entry e)) entry) ∙ sym (bytes_more l i here),
+      omega (arith, c.loop-i.invariant.1, c.packed_len-bytes.ensures.most),
     )
 
 pub returns : goal.returns

@@ -16,14 +16,14 @@ loop-i-preserved g c =
     let long : length c.loop-i.map ≡ n = search rules in
     let here : i < length calls = omega arith in
     let there : i < length c.loop-i.answers = omega arith in
-    let same : units_of c.make-call.new.stage ≡ units_of c.loop-i.stage = step_units _ _ _ w c.make-call.ensures.step in (
-      c.make-call.ensures.rooms ∙ inv.0,
+    let same : units_of c.make_call.new.stage ≡ units_of c.loop-i.stage = step_units _ _ _ w c.make_call.ensures.step in (
+      c.make_call.ensures.rooms ∙ inv.0,
       search rules,
       same ∙ inv.2,
-      sym (ap (λ k. drop k c.make-call.new.map) inv.2) ∙ c.make-call.ensures.behind ∙ ap (λ k. drop k c.loop-i.map) inv.2 ∙ inv.3,
-      world_again n r calls i call.RowStart w long inv.0 c.make-call.ensures.step here inv.4,
-      answers_again n r calls i call.RowStart w long inv.0 c.make-call.ensures.step here c.loop-i.answers there inv.5,
-      rest_again i c.make-call.result c.loop-i.answers c.args.answers.now inv.6,
+      sym (ap (λ k. drop k c.make_call.new.map) inv.2) ∙ c.make_call.ensures.behind ∙ ap (λ k. drop k c.loop-i.map) inv.2 ∙ inv.3,
+      world_again n r calls i call.RowStart w long inv.0 c.make_call.ensures.step here inv.4,
+      answers_again n r calls i call.RowStart w long inv.0 c.make_call.ensures.step here c.loop-i.answers there inv.5,
+      rest_again i c.make_call.result c.loop-i.answers c.args.answers.now inv.6,
     )
 
 pub returns : goal.returns

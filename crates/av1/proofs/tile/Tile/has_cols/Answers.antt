@@ -1,4 +1,4 @@
-use Rattle.std.proofs.Common.{◌≡◌, ℕ, ◌/◌, ◌<◌, arith, rules}
+use Rattle.std.proofs.Common.{◌≡◌, ◌/◌, ◌<◌, arith, rules}
 use Rattle.av1.specs.Sizes.{width}
 use Rattle.av1.proofs.Placing.{left_of_side}
 use Rattle.av1.proofs.tile.Tile.has_cols.Goals as goal

@@ -1,4 +1,4 @@
-use Rattle.std.proofs.Common.{◌≡◌, ℕ, ◌/◌, ◌<◌, arith, rules}
+use Rattle.std.proofs.Common.{◌≡◌, ◌/◌, ◌<◌, arith, rules}
 use Rattle.av1.specs.Sizes.{height}
 use Rattle.av1.proofs.Placing.{left_of_side}
 use Rattle.av1.proofs.tile.Tile.has_rows.Goals as goal

@@ -1,5 +1,4 @@
-use Rattle.std.proofs.Common.{◌≡◌, ℕ, ◌+◌, ◌-◌, ◌*◌, ◌<◌, ◌≤◌, min, rules}
-use Rattle.av1.specs.Tiles.{Inside}
+use Rattle.std.proofs.Common.{◌≡◌, ℕ, ◌-◌, ◌<◌, min, rules}
 use Rattle.av1.proofs.Placing.{inside_block}
 use Rattle.av1.proofs.tile.Tile.place.Goals as goal
 

@@ -1,4 +1,4 @@
-use Rattle.std.proofs.Common.{◌≡◌, ℕ, ◌+◌, ◌-◌, ◌≤◌, true, List, length, take, drop, sym, ap, ◌∙◌, subst, arith, rules}
+use Rattle.std.proofs.Common.{◌≡◌, ℕ, ◌+◌, ◌-◌, ◌≤◌, true, List, length, take, drop, sym, ap, subst, arith, rules}
 use borrow.Rule.Slice.PartMut.{mid_of}
 use Rattle.cdf.specs.Layout.{in_layout, SoundWords}
 use Rattle.cdf.specs.Words.{Words, LawfulTable, table, words_of}

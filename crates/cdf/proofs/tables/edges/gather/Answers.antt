@@ -1,12 +1,12 @@
-use Rattle.std.proofs.Common.{◌≡◌, ℕ, ◌+◌, ◌<◌, ◌≤◌, List, length, get_or, drop, sym, ap, ◌∙◌, subst, arith, rules}
+use Rattle.std.proofs.Common.{◌≡◌, ℕ, ◌+◌, ◌<◌, ◌≤◌, List, length, drop, sym, ap, ◌∙◌, subst, arith, rules}
 use Rattle.std.proofs.lemmas.List.{drop_all}
 use Rattle.cdf.specs.Entries.{edge_symbols}
 use Rattle.cdf.specs.Words.{widths}
 use Rattle.cdf.proofs.Edges.{edge_most, edge_six, next_width}
 use Rattle.cdf.proofs.tables.edges.gather.Goals as goal
 
-pub overflow-add-sum : goal.overflow-add-sum
-overflow-add-sum c =
+pub overflow_add-sum : goal.overflow_add-sum
+overflow_add-sum c =
     let vs : List ℕ = c.args.cdf.now in
     let ss : List ℕ = c.symbols-symbols.result in
     let six : length ss ≡ 6 = ap length c.symbols-symbols.ensures ∙ edge_six c.args.edge in

@@ -9,9 +9,9 @@ pub returns : goal.returns
 returns c =
     let j = c.args.self.now in
     let some : 0 < j.trials = search rules in
-    let used = ap (λ (l : Lane Spot). l.used) c.log-record.ensures.lane in
+    let used = ap (λ (l : Lane Spot). l.used) c.log_record.ensures.lane in
     record {
-      lane = c.log-record.ensures.lane ∙ log_open j.marks j.trials (lane c.args.spots.now j.spots) (c.args.was ∷ []) some;
+      lane = c.log_record.ensures.lane ∙ log_open j.marks j.trials (lane c.args.spots.now j.spots) (c.args.was ∷ []) some;
       kept = (refl, refl, refl, refl);
       used = omega (arith, used);
     }

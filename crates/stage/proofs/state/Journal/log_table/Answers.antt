@@ -10,11 +10,11 @@ use Rattle.stage.specs.View.{lane, marks_of}
 use Rattle.stage.proofs.Symbols.{small_inside, large_inside, log_open, log_none, small_window, no_small_window, large_window, no_large_window}
 use Rattle.stage.proofs.state.Journal.log_table.Goals as goal
 
-pub window-of-requires : goal.window-of-requires
-window-of-requires c = (omega arith, small_inside c.args.first c.args.n c.requires.table (search rules))
+pub window_of-requires : goal.window_of-requires
+window_of-requires c = (omega arith, small_inside c.args.first c.args.n c.requires.table (search rules))
 
-pub window-of-requires-else-n-le4 : goal.window-of-requires-else-n-le4
-window-of-requires-else-n-le4 c = (omega arith, large_inside c.args.first c.args.n c.requires.table (search rules))
+pub window_of-requires-else-n-le4 : goal.window_of-requires-else-n-le4
+window_of-requires-else-n-le4 c = (omega arith, large_inside c.args.first c.args.n c.requires.table (search rules))
 
 pub returns-then-n-le4 : goal.returns-then-n-le4
 returns-then-n-le4 c =
@@ -27,12 +27,12 @@ returns-then-n-le4 c =
     let was = lane c.args.log.now.small.now j.small in
     record {
       small =
-          c.log-record.ensures.lane ∙ ap (λ r. logged was (r ∷ [])) c.window-of.ensures
+          c.log_record.ensures.lane ∙ ap (λ r. logged was (r ∷ [])) c.window_of.ensures
           ∙ ap (λ w. logged was (window_at 4 w first ∷ [])) c.words.ensures ∙ log_open j.marks j.trials was (window_at 4 words first ∷ []) some
           ∙ sym (ap (log_if (marks_of j.marks j.trials) was) (small_window words first n few));
       large = log_none j.marks j.trials (lane c.args.log.now.large.now j.large) (large_log (whole (table first n)) words) (no_large_window words first n few);
       spots = (refl, refl);
-      few = λ h. (omega (arith, ap (λ (l : Lane (Window 4)). l.used) c.log-record.ensures.lane), refl);
+      few = λ h. (omega (arith, ap (λ (l : Lane (Window 4)). l.used) c.log_record.ensures.lane), refl);
       many = λ h. absurd (omega (arith, few));
       trials = (refl, refl);
       memory = search rules;
@@ -50,12 +50,12 @@ returns-else-n-le4 c =
     record {
       small = log_none j.marks j.trials (lane c.args.log.now.small.now j.small) (small_log (whole (table first n)) words) (no_small_window words first n many);
       large =
-          c.log-record-else-n-le4.ensures.lane ∙ ap (λ r. logged was (r ∷ [])) c.window-of-else-n-le4.ensures
+          c.log_record-else-n-le4.ensures.lane ∙ ap (λ r. logged was (r ∷ [])) c.window_of-else-n-le4.ensures
           ∙ ap (λ w. logged was (window_at 16 w first ∷ [])) c.words-else-n-le4.ensures ∙ log_open j.marks j.trials was (window_at 16 words first ∷ []) some
           ∙ sym (ap (log_if (marks_of j.marks j.trials) was) (large_window words first n many));
       spots = (refl, refl);
       few = λ h. absurd (omega (arith, many));
-      many = λ h. (omega (arith, ap (λ (l : Lane (Window 16)). l.used) c.log-record-else-n-le4.ensures.lane), refl);
+      many = λ h. (omega (arith, ap (λ (l : Lane (Window 16)). l.used) c.log_record-else-n-le4.ensures.lane), refl);
       trials = (refl, refl);
       memory = search rules;
     }

@@ -3,8 +3,8 @@ use Rattle.stage.specs.View.{marks_of}
 use Rattle.stage.proofs.Cells.{block_turn}
 use Rattle.stage.proofs.state.Journal.set_block.Goals as goal
 
-pub set-row-requires : goal.set-row-requires
-set-row-requires c =
+pub set_row-requires : goal.set_row-requires
+set_row-requires c =
     let k : ℕ = c.loop-k.k in
     let wide : ℕ = c.args.block.width in
     let here : k < c.args.block.height = search rules in
@@ -20,12 +20,12 @@ set-row-requires c =
 pub loop-k-preserved : goal.loop-k-preserved
 loop-k-preserved c =
     let inv = c.loop-k.invariant in
-    let kept = c.set-row.ensures.kept in
+    let kept = c.set_row.ensures.kept in
     let k : ℕ = c.loop-k.k in
     let wide : ℕ = c.args.block.width in
     let here : k < c.args.block.height = search rules in
     let parts : (k + 1) * wide ≡ k * wide + wide = simp (add-mul, one-mul) in (
       (kept.0 ∙ inv.0.0, kept.1 ∙ inv.0.1, kept.2 ∙ inv.0.2, kept.3 ∙ inv.0.3),
-      omega (arith, c.set-row.ensures.used, inv.1, parts),
-      block_turn _ _ c.args.change c.args.columns wide c.args.block.from k c.args.block.height _ _ _ here (ap₂ marks_of inv.0.1 inv.0.0) c.set-row.ensures.cells inv.2,
+      omega (arith, c.set_row.ensures.used, inv.1, parts),
+      block_turn _ _ c.args.change c.args.columns wide c.args.block.from k c.args.block.height _ _ _ here (ap₂ marks_of inv.0.1 inv.0.0) c.set_row.ensures.cells inv.2,
     )

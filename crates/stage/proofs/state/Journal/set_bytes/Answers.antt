@@ -10,13 +10,13 @@ pub loop-i-preserved : goal.loop-i-preserved
 loop-i-preserved c =
     let inv = c.loop-i.invariant in
     let j = c.loop-i.self in
-    let kept = c.log-spot.ensures.kept in
+    let kept = c.log_spot.ensures.kept in
     let at : ℕ = c.args.first + c.loop-i.i in
     let here : c.loop-i.i < c.args.count = search rules in
     let was = lane c.loop-i.spots j.spots in
-    let logged = c.log-spot.ensures.lane ∙ ap (λ p. log_if (marks_of j.marks j.trials) was (p ∷ [])) c.spot-of.ensures in (
+    let logged = c.log_spot.ensures.lane ∙ ap (λ p. log_if (marks_of j.marks j.trials) was (p ∷ [])) c.spot_of.ensures in (
       (kept.0 ∙ inv.0.0, kept.1 ∙ inv.0.1, kept.2 ∙ inv.0.2, kept.3 ∙ inv.0.3),
-      omega (arith, c.log-spot.ensures.used, inv.1),
+      omega (arith, c.log_spot.ensures.used, inv.1),
       length-set c.loop-i.bytes at c.args.byte ∙ inv.2,
       next_turn _ _ c.args.first c.loop-i.i c.args.count _ _ _ here
           (ap (λ ms. set_byte ms c.args.side c.args.byte) (ap₂ marks_of inv.0.1 inv.0.0))

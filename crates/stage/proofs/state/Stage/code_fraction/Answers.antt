@@ -12,7 +12,7 @@ symbol-requires g c =
     let present : fraction_count c.args.precision ≡ 0 → ⊥ = search rules in
     let room : RoomFor 1 0 (moment c.args.self.now c.args.log.now (k.rooms c.args.sink.now) (k.list c.args.sink.now)) = fraction_room c.args.precision _ present c.requires.room in
     record {
-      table = subst (λ f. in_layout (table f 4) ≡ true) (sym c.fraction-table.ensures) (fraction_in_layout c.args.base c.args.class c.args.d c.requires.base c.requires.low);
+      table = subst (λ f. in_layout (table f 4) ≡ true) (sym c.fraction_table.ensures) (fraction_in_layout c.args.base c.args.class c.args.d c.requires.base c.requires.low);
       symbol = c.requires.symbol;
       room = omega (arith, room.entries);
       small = λ some few. omega (arith, room.small some);

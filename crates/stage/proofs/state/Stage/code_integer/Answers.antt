@@ -16,8 +16,8 @@ symbol-requires g c =
       large = λ some many. absurd (omega arith);
     }
 
-pub code-bits-requires : goal.code-bits-requires
-code-bits-requires g c =
+pub code_bits-requires : goal.code_bits-requires
+code_bits-requires g c =
     let more : c.args.class ≡ 0 → ⊥ = search rules in
     let most : c.args.base ≤ 374 = component_inside c.args.base c.requires.base in
     record {

@@ -10,8 +10,8 @@ returns-then-cols-2 g c =
     let below : c.args.rows ≡ false = search rules in
     let beside : c.args.cols ≡ true = search rules in
     record {
-      step = λ memory. c.edge-symbol.ensures.step memory l ∙ bottom_coded c.args.rows c.args.cols (table c.args.first c.args.n) c.args.p (world c.args.self.now memory l (g.S.Sink.list c.args.sink.now)) below beside;
-      rooms = c.edge-symbol.ensures.rooms;
+      step = λ memory. c.edge_symbol.ensures.step memory l ∙ bottom_coded c.args.rows c.args.cols (table c.args.first c.args.n) c.args.p (world c.args.self.now memory l (g.S.Sink.list c.args.sink.now)) below beside;
+      rooms = c.edge_symbol.ensures.rooms;
       memory = search rules;
     }
 
@@ -21,7 +21,7 @@ returns-then-rows-2 g c =
     let below : c.args.rows ≡ true = search rules in
     let beside : c.args.cols ≡ false = search rules in
     record {
-      step = λ memory. c.edge-symbol-then-rows-2.ensures.step memory l ∙ right_coded c.args.rows c.args.cols (table c.args.first c.args.n) c.args.p (world c.args.self.now memory l (g.S.Sink.list c.args.sink.now)) below beside;
-      rooms = c.edge-symbol-then-rows-2.ensures.rooms;
+      step = λ memory. c.edge_symbol-then-rows-2.ensures.step memory l ∙ right_coded c.args.rows c.args.cols (table c.args.first c.args.n) c.args.p (world c.args.self.now memory l (g.S.Sink.list c.args.sink.now)) below beside;
+      rooms = c.edge_symbol-then-rows-2.ensures.rooms;
       memory = search rules;
     }

@@ -9,13 +9,13 @@ use Rattle.stage.proofs.state.Stage.encode_mv_component.Goals as goal
 pub symbol-requires : goal.symbol-requires
 symbol-requires g c =
     let k = g.S.Sink in
-    let class : ℕ = c.get-mv-class-class.result.0 in
-    let offset : ℕ = c.get-mv-class-class.result.1 in
+    let class : ℕ = c.get_mv_class-class.result.0 in
+    let offset : ℕ = c.get_mv_class-class.result.1 in
     let split : SplitAs c.args.comp c.in-Some.sign c.in-Some.mag = search rules in
     let some : c.in-Some.mag ≡ 0 → ⊥ = search rules in
     let is : Parts c.args.precision c.args.comp c.in-Some.sign class offset =
     parts c.args.precision c.args.comp c.in-Some.sign c.in-Some.mag class offset c.requires.fine split some
-    c.get-mv-class-class.ensures.class c.get-mv-class-class.ensures.offset in
+    c.get_mv_class-class.ensures.class c.get_mv_class-class.ensures.offset in
     let m : Moment = moment c.args.self.now c.args.log.now (k.rooms c.args.sink.now) (k.list c.args.sink.now) in
     let room : RoomFor (1 + offset_count c.args.precision class) 1 m =
     component_room c.args.precision c.args.comp c.in-Some.sign class offset m is c.requires.room in
@@ -30,13 +30,13 @@ symbol-requires g c =
 pub symbol-requires-2 : goal.symbol-requires-2
 symbol-requires-2 g c =
     let k = g.S.Sink in
-    let class : ℕ = c.get-mv-class-class.result.0 in
-    let offset : ℕ = c.get-mv-class-class.result.1 in
+    let class : ℕ = c.get_mv_class-class.result.0 in
+    let offset : ℕ = c.get_mv_class-class.result.1 in
     let split : SplitAs c.args.comp c.in-Some.sign c.in-Some.mag = search rules in
     let some : c.in-Some.mag ≡ 0 → ⊥ = search rules in
     let is : Parts c.args.precision c.args.comp c.in-Some.sign class offset =
     parts c.args.precision c.args.comp c.in-Some.sign c.in-Some.mag class offset c.requires.fine split some
-    c.get-mv-class-class.ensures.class c.get-mv-class-class.ensures.offset in
+    c.get_mv_class-class.ensures.class c.get_mv_class-class.ensures.offset in
     let m : Moment = moment c.args.self.now c.args.log.now (k.rooms c.args.sink.now) (k.list c.args.sink.now) in
     let n : Moment = moment c.symbol.new.self c.symbol.new.log (k.rooms c.symbol.new.sink) (k.list c.symbol.new.sink) in
     let e = c.symbol.ensures in
@@ -53,16 +53,16 @@ symbol-requires-2 g c =
       large = λ some many. omega (arith, room.large some);
     }
 
-pub code-offset-requires : goal.code-offset-requires
-code-offset-requires g c =
+pub code_offset-requires : goal.code_offset-requires
+code_offset-requires g c =
     let k = g.S.Sink in
-    let class : ℕ = c.get-mv-class-class.result.0 in
-    let offset : ℕ = c.get-mv-class-class.result.1 in
+    let class : ℕ = c.get_mv_class-class.result.0 in
+    let offset : ℕ = c.get_mv_class-class.result.1 in
     let split : SplitAs c.args.comp c.in-Some.sign c.in-Some.mag = search rules in
     let some : c.in-Some.mag ≡ 0 → ⊥ = search rules in
     let is : Parts c.args.precision c.args.comp c.in-Some.sign class offset =
     parts c.args.precision c.args.comp c.in-Some.sign c.in-Some.mag class offset c.requires.fine split some
-    c.get-mv-class-class.ensures.class c.get-mv-class-class.ensures.offset in
+    c.get_mv_class-class.ensures.class c.get_mv_class-class.ensures.offset in
     let m : Moment = moment c.args.self.now c.args.log.now (k.rooms c.args.sink.now) (k.list c.args.sink.now) in
     let n : Moment = moment c.symbol.new.self c.symbol.new.log (k.rooms c.symbol.new.sink) (k.list c.symbol.new.sink) in
     let l : Moment = moment c.symbol-2.new.self c.symbol-2.new.log (k.rooms c.symbol-2.new.sink) (k.list c.symbol-2.new.sink) in
@@ -87,20 +87,20 @@ code-offset-requires g c =
 pub returns : goal.returns
 returns g c =
     let k = g.S.Sink in
-    let class : ℕ = c.get-mv-class-class.result.0 in
-    let offset : ℕ = c.get-mv-class-class.result.1 in
+    let class : ℕ = c.get_mv_class-class.result.0 in
+    let offset : ℕ = c.get_mv_class-class.result.1 in
     let split : SplitAs c.args.comp c.in-Some.sign c.in-Some.mag = search rules in
     let some : c.in-Some.mag ≡ 0 → ⊥ = search rules in
     let is : Parts c.args.precision c.args.comp c.in-Some.sign class offset =
     parts c.args.precision c.args.comp c.in-Some.sign c.in-Some.mag class offset c.requires.fine split some
-    c.get-mv-class-class.ensures.class c.get-mv-class-class.ensures.offset in
+    c.get_mv_class-class.ensures.class c.get_mv_class-class.ensures.offset in
     let m : Moment = moment c.args.self.now c.args.log.now (k.rooms c.args.sink.now) (k.list c.args.sink.now) in
     let n : Moment = moment c.symbol.new.self c.symbol.new.log (k.rooms c.symbol.new.sink) (k.list c.symbol.new.sink) in
     let l : Moment = moment c.symbol-2.new.self c.symbol-2.new.log (k.rooms c.symbol-2.new.sink) (k.list c.symbol-2.new.sink) in
-    let o : Moment = moment c.code-offset.new.self c.code-offset.new.log (k.rooms c.code-offset.new.sink) (k.list c.code-offset.new.sink) in
+    let o : Moment = moment c.code_offset.new.self c.code_offset.new.log (k.rooms c.code_offset.new.sink) (k.list c.code_offset.new.sink) in
     let e = c.symbol.ensures in
     let f = c.symbol-2.ensures in
     component_coded c.args.base c.args.precision c.args.comp c.in-Some.sign class offset m n l o is c.in-Some.ensures.within.0
     (coded_small c.args.base 2 c.in-Some.sign m n (omega arith) e.step e.rooms e.left e.few e.memory e.trials)
     (coded_large (c.args.base + 40) 11 class n l (omega arith) f.step f.rooms f.left f.many f.memory f.trials)
-    (c.code-offset.ensures c.in-Some.sign)
+    (c.code_offset.ensures c.in-Some.sign)

@@ -4,23 +4,23 @@ use Rattle.stage.specs.View.{cleared}
 use Rattle.stage.proofs.Starts.{started}
 use Rattle.stage.proofs.state.Stage.start.Goals as goal
 
-pub returns-in-err-tile : goal.returns-in-err-tile
-returns-in-err-tile c =
-    let p = err_from_is_err_and c.from-residual.result c.from-residual.ensures.1 in
-    rw (p.1, p.2) (record { asked = c.in-err-tile.ensures.asked; fresh = tt; map = refl })
+pub returns-in_err-tile : goal.returns-in_err-tile
+returns-in_err-tile c =
+    let p = err_from_is_err_and c.from_residual.result c.from_residual.ensures.1 in
+    rw (p.1, p.2) (record { asked = c.in_err-tile.ensures.asked; fresh = tt; map = refl })
 
 pub returns : goal.returns
 returns c =
-    let tile = c.in-ok-tile.tile in
-    let m = c.in-ok-tile.ensures.made in
-    let cells : c.clear-cells.new.map ≡ cleared (tile.cols * tile.rows) c.args.map.now =
-    c.clear-cells.ensures ∙ ap (λ n. cleared n c.args.map.now) c.units.ensures.value in
+    let tile = c.in_ok-tile.tile in
+    let m = c.in_ok-tile.ensures.made in
+    let cells : c.clear_cells.new.map ≡ cleared (tile.cols * tile.rows) c.args.map.now =
+    c.clear_cells.ensures ∙ ap (λ n. cleared n c.args.map.now) c.units.ensures.value in
     let j = c.start-3.ensures in
     record {
-      asked = c.in-ok-tile.ensures.asked;
+      asked = c.in_ok-tile.ensures.asked;
       fresh = λ l.
           started c.args.columns c.args.rows c.args.last tile.cols tile.rows c.start.result.words c.start-2.result.above c.start-2.result.left
           c.start-3.result.marks c.start-3.result.trials c.start-3.result.small c.start-3.result.large c.start-3.result.spots
-          c.args.map.now c.clear-cells.new.map l m.0 m.1 c.start.ensures c.start-2.ensures.0 c.start-2.ensures.1 j.0 j.1 j.2 j.3 cells;
+          c.args.map.now c.clear_cells.new.map l m.0 m.1 c.start.ensures c.start-2.ensures.0 c.start-2.ensures.1 j.0 j.1 j.2 j.3 cells;
       map = cells ∙ ap₂ (λ a b. cleared (a * b) c.args.map.now) m.0 m.1;
     }

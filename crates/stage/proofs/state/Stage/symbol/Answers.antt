@@ -17,16 +17,16 @@ returns g c =
     let es : List Entry = k.list c.args.sink.now in
     let room : ℕ = k.rooms c.args.sink.now es in
     let e : Entry = c.in-Some.entry in
-    let words : c.symbol-with-update.new.self.words ≡ updated w t v = symbol_words w c.symbol-with-update.new.self.words t v c.requires.table c.requires.symbol c.in-Some.ensures.words in
+    let words : c.symbol_with_update.new.self.words ≡ updated w t v = symbol_words w c.symbol_with_update.new.self.words t v c.requires.table c.requires.symbol c.in-Some.ensures.words in
     let entry : e ≡ entry_of w (whole t) v = symbol_entry w t v e c.requires.table c.requires.symbol c.in-Some.ensures.entry in
     let list : k.list c.put.new.self ≡ es ++ entry_of w (whole t) v ∷ [] =
     put_lawful e room es (k.list c.put.new.self) c.in-Some.ensures.lawful c.requires.room c.put.ensures.list ∙ ap (λ x. es ++ x ∷ []) entry in
     let lawful : is_entry (entry_of w (whole t) v) ≡ true = subst (λ x. is_entry x ≡ true) entry c.in-Some.ensures.lawful in
-    let l = c.log-table.ensures in
+    let l = c.log_table.ensures in
     record {
       step = λ memory.
-          symbol_world (state_of s memory) s.journal c.log-table.new.self (lanes c.args.log.now) (lanes c.log-table.new.log) es (k.list c.put.new.self)
-          c.symbol-with-update.new.self.words t v words list l.small l.large l.spots.0 l.spots.1 l.trials.0 l.trials.1;
+          symbol_world (state_of s memory) s.journal c.log_table.new.self (lanes c.args.log.now) (lanes c.log_table.new.log) es (k.list c.put.new.self)
+          c.symbol_with_update.new.self.words t v words list l.small l.large l.spots.0 l.spots.1 l.trials.0 l.trials.1;
       rooms = c.put.ensures.rooms;
       left =
           subst (λ (f : List Entry → ℕ). room ≤ f (k.list c.put.new.self) + 1) (sym c.put.ensures.rooms)

@@ -27,8 +27,8 @@ returns-in-default g c =
       memory = search rules;
     }
 
-pub returns-in-default-split-component : goal.returns-in-default-split-component
-returns-in-default-split-component g c =
+pub returns-in-default-split_component : goal.returns-in-default-split_component
+returns-in-default-split_component g c =
     let k = g.S.Sink in
     let s = c.args.self.now in
     let beyond : magnitude c.args.col ≤ 16384 → ⊥ = search rules in
@@ -49,13 +49,13 @@ returns-then-high-step-ne0 g c =
     let row : ℤ = c.args.row in
     let col : ℤ = c.args.col in
     let high : ℕ = c.in-Some.high in
-    let wide : ℕ = c.in-Some-split-component.wide in
+    let wide : ℕ = c.in-Some-split_component.wide in
     let first : SplitAs row c.in-Some.field-0-0 high = search rules in
-    let next : SplitAs col c.in-Some-split-component.field-0-0 wide = search rules in
+    let next : SplitAs col c.in-Some-split_component.field-0-0 wide = search rules in
     let x = split_as row c.in-Some.field-0-0 high first in
-    let y = split_as col c.in-Some-split-component.field-0-0 wide next in
-    let coarse : high % c.mv-step-step.result ≡ 0 → wide % c.mv-step-step.result ≡ 0 → ⊥ = search rules in
-    let size : c.mv-step-step.result ≡ step_of p = c.mv-step-step.ensures.value in
+    let y = split_as col c.in-Some-split_component.field-0-0 wide next in
+    let coarse : high % c.mv_step-step.result ≡ 0 → wide % c.mv_step-step.result ≡ 0 → ⊥ = search rules in
+    let size : c.mv_step-step.result ≡ step_of p = c.mv_step-step.ensures.value in
     record {
       step = λ memory.
           refused_precision (length memory) (k.rooms c.args.sink.now) (state_of s memory) s.journal (lanes c.args.log.now) (k.list c.args.sink.now)
@@ -65,31 +65,31 @@ returns-then-high-step-ne0 g c =
       memory = search rules;
     }
 
-pub returns-in-err-ask-record : goal.returns-in-err-ask-record
-returns-in-err-ask-record g c =
+pub returns-in_err-ask_record : goal.returns-in_err-ask_record
+returns-in_err-ask_record g c =
     let k = g.S.Sink in
     let s = c.args.self.now in
     let p = c.args.precision in
     let row : ℤ = c.args.row in
     let col : ℤ = c.args.col in
     let high : ℕ = c.in-Some.high in
-    let wide : ℕ = c.in-Some-split-component.wide in
+    let wide : ℕ = c.in-Some-split_component.wide in
     let first : SplitAs row c.in-Some.field-0-0 high = search rules in
-    let next : SplitAs col c.in-Some-split-component.field-0-0 wide = search rules in
-    let fine : high % c.mv-step-step.result ≡ 0 = search rules in
-    let fine' : wide % c.mv-step-step.result ≡ 0 = search rules in
-    let is : Taken p row col high wide c.component-symbols.result c.component-symbols-2.result =
-    taken p row col c.in-Some.field-0-0 high c.in-Some-split-component.field-0-0 wide c.mv-step-step.result c.component-symbols.result c.component-symbols-2.result
-    first next c.mv-step-step.ensures.value fine fine' c.component-symbols.ensures.value c.component-symbols-2.ensures.value in
-    let small : ℕ = 1 + (c.component-symbols.result + c.component-symbols-2.result) in
+    let next : SplitAs col c.in-Some-split_component.field-0-0 wide = search rules in
+    let fine : high % c.mv_step-step.result ≡ 0 = search rules in
+    let fine' : wide % c.mv_step-step.result ≡ 0 = search rules in
+    let is : Taken p row col high wide c.component_symbols.result c.component_symbols-2.result =
+    taken p row col c.in-Some.field-0-0 high c.in-Some-split_component.field-0-0 wide c.mv_step-step.result c.component_symbols.result c.component_symbols-2.result
+    first next c.mv_step-step.ensures.value fine fine' c.component_symbols.ensures.value c.component_symbols-2.ensures.value in
+    let small : ℕ = 1 + (c.component_symbols.result + c.component_symbols-2.result) in
     let large : ℕ = bool_byte (not (eqb high 0)) + bool_byte (not (eqb wide 0)) in
     let few : small ≡ vector_small p row col = omega (arith, is.row_count, is.col_count) in
     let many : large ≡ vector_large row col = omega (arith, is.rows, is.cols) in
-    let e = err_from_is_err_and c.from-residual.result c.from-residual.ensures.1 in
+    let e = err_from_is_err_and c.from_residual.result c.from_residual.ensures.1 in
     rw (e.1, e.2) (record {
       step = λ memory.
           refused_record (length memory) (k.rooms c.args.sink.now) (state_of s memory) s.journal (lanes c.args.log.now) (k.list c.args.sink.now)
-          p row col c.room.result small large _ is.row_fits is.col_fits c.room.ensures few many c.in-err-ask-record.ensures.answer;
+          p row col c.room.result small large _ is.row_fits is.col_fits c.room.ensures few many c.in_err-ask_record.ensures.answer;
       rooms = refl;
       still = λ h. (refl, refl);
       memory = search rules;
@@ -103,18 +103,18 @@ symbol-requires g c =
     let row : ℤ = c.args.row in
     let col : ℤ = c.args.col in
     let high : ℕ = c.in-Some.high in
-    let wide : ℕ = c.in-Some-split-component.wide in
+    let wide : ℕ = c.in-Some-split_component.wide in
     let first : SplitAs row c.in-Some.field-0-0 high = search rules in
-    let next : SplitAs col c.in-Some-split-component.field-0-0 wide = search rules in
-    let fine : high % c.mv-step-step.result ≡ 0 = search rules in
-    let fine' : wide % c.mv-step-step.result ≡ 0 = search rules in
-    let is : Taken p row col high wide c.component-symbols.result c.component-symbols-2.result =
-    taken p row col c.in-Some.field-0-0 high c.in-Some-split-component.field-0-0 wide c.mv-step-step.result c.component-symbols.result c.component-symbols-2.result
-    first next c.mv-step-step.ensures.value fine fine' c.component-symbols.ensures.value c.component-symbols-2.ensures.value in
+    let next : SplitAs col c.in-Some-split_component.field-0-0 wide = search rules in
+    let fine : high % c.mv_step-step.result ≡ 0 = search rules in
+    let fine' : wide % c.mv_step-step.result ≡ 0 = search rules in
+    let is : Taken p row col high wide c.component_symbols.result c.component_symbols-2.result =
+    taken p row col c.in-Some.field-0-0 high c.in-Some-split_component.field-0-0 wide c.mv_step-step.result c.component_symbols.result c.component_symbols-2.result
+    first next c.mv_step-step.ensures.value fine fine' c.component_symbols.ensures.value c.component_symbols-2.ensures.value in
     let m : Moment = moment c.args.self.now c.args.log.now (k.rooms c.args.sink.now) (k.list c.args.sink.now) in
     let room : RoomFor (vector_small p row col) (vector_large row col) m =
-    room_asked p row col high wide c.component-symbols.result c.component-symbols-2.result c.room.result m is c.room.ensures
-    c.in-ok-ask-record.ensures.room c.in-ok-ask-record.ensures.lanes in
+    room_asked p row col high wide c.component_symbols.result c.component_symbols-2.result c.room.result m is c.room.ensures
+    c.in_ok-ask_record.ensures.room c.in_ok-ask_record.ensures.lanes in
     record {
       table = joints_in_layout;
       symbol = search rules;
@@ -123,26 +123,26 @@ symbol-requires g c =
       large = λ some many. absurd (omega arith);
     }
 
-pub encode-mv-component-requires : goal.encode-mv-component-requires
-encode-mv-component-requires g c =
+pub encode_mv_component-requires : goal.encode_mv_component-requires
+encode_mv_component-requires g c =
     let k = g.S.Sink in
     let s = c.args.self.now in
     let p = c.args.precision in
     let row : ℤ = c.args.row in
     let col : ℤ = c.args.col in
     let high : ℕ = c.in-Some.high in
-    let wide : ℕ = c.in-Some-split-component.wide in
+    let wide : ℕ = c.in-Some-split_component.wide in
     let first : SplitAs row c.in-Some.field-0-0 high = search rules in
-    let next : SplitAs col c.in-Some-split-component.field-0-0 wide = search rules in
-    let fine : high % c.mv-step-step.result ≡ 0 = search rules in
-    let fine' : wide % c.mv-step-step.result ≡ 0 = search rules in
-    let is : Taken p row col high wide c.component-symbols.result c.component-symbols-2.result =
-    taken p row col c.in-Some.field-0-0 high c.in-Some-split-component.field-0-0 wide c.mv-step-step.result c.component-symbols.result c.component-symbols-2.result
-    first next c.mv-step-step.ensures.value fine fine' c.component-symbols.ensures.value c.component-symbols-2.ensures.value in
+    let next : SplitAs col c.in-Some-split_component.field-0-0 wide = search rules in
+    let fine : high % c.mv_step-step.result ≡ 0 = search rules in
+    let fine' : wide % c.mv_step-step.result ≡ 0 = search rules in
+    let is : Taken p row col high wide c.component_symbols.result c.component_symbols-2.result =
+    taken p row col c.in-Some.field-0-0 high c.in-Some-split_component.field-0-0 wide c.mv_step-step.result c.component_symbols.result c.component_symbols-2.result
+    first next c.mv_step-step.ensures.value fine fine' c.component_symbols.ensures.value c.component_symbols-2.ensures.value in
     let m : Moment = moment c.args.self.now c.args.log.now (k.rooms c.args.sink.now) (k.list c.args.sink.now) in
     let room : RoomFor (vector_small p row col) (vector_large row col) m =
-    room_asked p row col high wide c.component-symbols.result c.component-symbols-2.result c.room.result m is c.room.ensures
-    c.in-ok-ask-record.ensures.room c.in-ok-ask-record.ensures.lanes in
+    room_asked p row col high wide c.component_symbols.result c.component_symbols-2.result c.room.result m is c.room.ensures
+    c.in_ok-ask_record.ensures.room c.in_ok-ask_record.ensures.lanes in
     let j : ℕ = 2 * bool_byte (not (eqb high 0)) + bool_byte (not (eqb wide 0)) in
     let n : Moment = moment c.symbol.new.self c.symbol.new.log (k.rooms c.symbol.new.sink) (k.list c.symbol.new.sink) in
     let e = c.symbol.ensures in
@@ -157,34 +157,34 @@ encode-mv-component-requires g c =
           (room_left (one 302 4) (j ∷ []) 1 0 (component_count p (magnitude row)) (nonzero row) (vector_small p row col) (vector_large row col) m n coded (omega arith) (omega arith) room);
     }
 
-pub encode-mv-component-requires-2 : goal.encode-mv-component-requires-2
-encode-mv-component-requires-2 g c =
+pub encode_mv_component-requires-2 : goal.encode_mv_component-requires-2
+encode_mv_component-requires-2 g c =
     let k = g.S.Sink in
     let s = c.args.self.now in
     let p = c.args.precision in
     let row : ℤ = c.args.row in
     let col : ℤ = c.args.col in
     let high : ℕ = c.in-Some.high in
-    let wide : ℕ = c.in-Some-split-component.wide in
+    let wide : ℕ = c.in-Some-split_component.wide in
     let first : SplitAs row c.in-Some.field-0-0 high = search rules in
-    let next : SplitAs col c.in-Some-split-component.field-0-0 wide = search rules in
-    let fine : high % c.mv-step-step.result ≡ 0 = search rules in
-    let fine' : wide % c.mv-step-step.result ≡ 0 = search rules in
-    let is : Taken p row col high wide c.component-symbols.result c.component-symbols-2.result =
-    taken p row col c.in-Some.field-0-0 high c.in-Some-split-component.field-0-0 wide c.mv-step-step.result c.component-symbols.result c.component-symbols-2.result
-    first next c.mv-step-step.ensures.value fine fine' c.component-symbols.ensures.value c.component-symbols-2.ensures.value in
+    let next : SplitAs col c.in-Some-split_component.field-0-0 wide = search rules in
+    let fine : high % c.mv_step-step.result ≡ 0 = search rules in
+    let fine' : wide % c.mv_step-step.result ≡ 0 = search rules in
+    let is : Taken p row col high wide c.component_symbols.result c.component_symbols-2.result =
+    taken p row col c.in-Some.field-0-0 high c.in-Some-split_component.field-0-0 wide c.mv_step-step.result c.component_symbols.result c.component_symbols-2.result
+    first next c.mv_step-step.ensures.value fine fine' c.component_symbols.ensures.value c.component_symbols-2.ensures.value in
     let m : Moment = moment c.args.self.now c.args.log.now (k.rooms c.args.sink.now) (k.list c.args.sink.now) in
     let room : RoomFor (vector_small p row col) (vector_large row col) m =
-    room_asked p row col high wide c.component-symbols.result c.component-symbols-2.result c.room.result m is c.room.ensures
-    c.in-ok-ask-record.ensures.room c.in-ok-ask-record.ensures.lanes in
+    room_asked p row col high wide c.component_symbols.result c.component_symbols-2.result c.room.result m is c.room.ensures
+    c.in_ok-ask_record.ensures.room c.in_ok-ask_record.ensures.lanes in
     let j : ℕ = 2 * bool_byte (not (eqb high 0)) + bool_byte (not (eqb wide 0)) in
     let n : Moment = moment c.symbol.new.self c.symbol.new.log (k.rooms c.symbol.new.sink) (k.list c.symbol.new.sink) in
     let e = c.symbol.ensures in
     let coded : Coded (one 302 4) (j ∷ []) 1 0 m n = coded_small 302 4 j m n (omega arith) e.step e.rooms e.left e.few e.memory e.trials in
     let there : to_z w32 (of_z w32 row) ≡ row = to_z-of_z c.ranges.row in
-    let l : Moment = moment c.encode-mv-component.new.self c.encode-mv-component.new.log (k.rooms c.encode-mv-component.new.sink) (k.list c.encode-mv-component.new.sink) in
+    let l : Moment = moment c.encode_mv_component.new.self c.encode_mv_component.new.log (k.rooms c.encode_mv_component.new.sink) (k.list c.encode_mv_component.new.sink) in
     let across : Coded (component_if (present row) 318 p) (path_if p row) (component_count p (magnitude row)) (nonzero row) n l =
-    subst (λ d. Coded (component_if (present d) 318 p) (path_if p d) (component_count p (magnitude d)) (nonzero d) n l) there c.encode-mv-component.ensures in
+    subst (λ d. Coded (component_if (present d) 318 p) (path_if p d) (component_count p (magnitude d)) (nonzero d) n l) there c.encode_mv_component.ensures in
     let back : to_z w32 (of_z w32 col) ≡ col = to_z-of_z c.ranges.col in
     let rest : RoomFor (component_count p (magnitude row) + component_count p (magnitude col)) (vector_large row col) n =
     room_left (one 302 4) (j ∷ []) 1 0 (component_count p (magnitude row) + component_count p (magnitude col)) (vector_large row col) (vector_small p row col) (vector_large row col) m n coded (omega arith) (omega arith) room in
@@ -206,15 +206,15 @@ returns g c =
     let row : ℤ = c.args.row in
     let col : ℤ = c.args.col in
     let high : ℕ = c.in-Some.high in
-    let wide : ℕ = c.in-Some-split-component.wide in
+    let wide : ℕ = c.in-Some-split_component.wide in
     let first : SplitAs row c.in-Some.field-0-0 high = search rules in
-    let next : SplitAs col c.in-Some-split-component.field-0-0 wide = search rules in
-    let fine : high % c.mv-step-step.result ≡ 0 = search rules in
-    let fine' : wide % c.mv-step-step.result ≡ 0 = search rules in
-    let is : Taken p row col high wide c.component-symbols.result c.component-symbols-2.result =
-    taken p row col c.in-Some.field-0-0 high c.in-Some-split-component.field-0-0 wide c.mv-step-step.result c.component-symbols.result c.component-symbols-2.result
-    first next c.mv-step-step.ensures.value fine fine' c.component-symbols.ensures.value c.component-symbols-2.ensures.value in
-    let small : ℕ = 1 + (c.component-symbols.result + c.component-symbols-2.result) in
+    let next : SplitAs col c.in-Some-split_component.field-0-0 wide = search rules in
+    let fine : high % c.mv_step-step.result ≡ 0 = search rules in
+    let fine' : wide % c.mv_step-step.result ≡ 0 = search rules in
+    let is : Taken p row col high wide c.component_symbols.result c.component_symbols-2.result =
+    taken p row col c.in-Some.field-0-0 high c.in-Some-split_component.field-0-0 wide c.mv_step-step.result c.component_symbols.result c.component_symbols-2.result
+    first next c.mv_step-step.ensures.value fine fine' c.component_symbols.ensures.value c.component_symbols-2.ensures.value in
+    let small : ℕ = 1 + (c.component_symbols.result + c.component_symbols-2.result) in
     let large : ℕ = bool_byte (not (eqb high 0)) + bool_byte (not (eqb wide 0)) in
     let few : small ≡ vector_small p row col = omega (arith, is.row_count, is.col_count) in
     let many : large ≡ vector_large row col = omega (arith, is.rows, is.cols) in
@@ -224,20 +224,20 @@ returns g c =
     let e = c.symbol.ensures in
     let coded : Coded (one 302 4) (j ∷ []) 1 0 m n = coded_small 302 4 j m n (omega arith) e.step e.rooms e.left e.few e.memory e.trials in
     let there : to_z w32 (of_z w32 row) ≡ row = to_z-of_z c.ranges.row in
-    let l : Moment = moment c.encode-mv-component.new.self c.encode-mv-component.new.log (k.rooms c.encode-mv-component.new.sink) (k.list c.encode-mv-component.new.sink) in
+    let l : Moment = moment c.encode_mv_component.new.self c.encode_mv_component.new.log (k.rooms c.encode_mv_component.new.sink) (k.list c.encode_mv_component.new.sink) in
     let across : Coded (component_if (present row) 318 p) (path_if p row) (component_count p (magnitude row)) (nonzero row) n l =
-    subst (λ d. Coded (component_if (present d) 318 p) (path_if p d) (component_count p (magnitude d)) (nonzero d) n l) there c.encode-mv-component.ensures in
+    subst (λ d. Coded (component_if (present d) 318 p) (path_if p d) (component_count p (magnitude d)) (nonzero d) n l) there c.encode_mv_component.ensures in
     let back : to_z w32 (of_z w32 col) ≡ col = to_z-of_z c.ranges.col in
-    let o : Moment = moment c.encode-mv-component-2.new.self c.encode-mv-component-2.new.log (k.rooms c.encode-mv-component-2.new.sink) (k.list c.encode-mv-component-2.new.sink) in
+    let o : Moment = moment c.encode_mv_component-2.new.self c.encode_mv_component-2.new.log (k.rooms c.encode_mv_component-2.new.sink) (k.list c.encode_mv_component-2.new.sink) in
     let down : Coded (component_if (present col) 374 p) (path_if p col) (component_count p (magnitude col)) (nonzero col) l o =
-    subst (λ d. Coded (component_if (present d) 374 p) (path_if p d) (component_count p (magnitude d)) (nonzero d) l o) back c.encode-mv-component-2.ensures in
+    subst (λ d. Coded (component_if (present d) 374 p) (path_if p d) (component_count p (magnitude d)) (nonzero d) l o) back c.encode_mv_component-2.ensures in
     let named : j ≡ 2 * nonzero row + nonzero col = omega (arith, is.rows, is.cols) in
     let all = vector_coded p row col m n l o is.row_fits is.col_fits (subst (λ i. Coded (one 302 4) (i ∷ []) 1 0 m n) named coded) across down in
     record {
       step = λ memory.
           accepted (length memory) (k.rooms c.args.sink.now) (state_of s memory) s.journal (lanes c.args.log.now) (k.list c.args.sink.now)
-          p row col c.room.result small large c.in-ok-ask-record.field-0 _ is.row_fits is.col_fits c.room.ensures few many
-          c.in-ok-ask-record.ensures.answer (all.step memory);
+          p row col c.room.result small large c.in_ok-ask_record.field-0 _ is.row_fits is.col_fits c.room.ensures few many
+          c.in_ok-ask_record.ensures.answer (all.step memory);
       rooms = all.rooms;
       still = search rules;
       memory = all.memory;

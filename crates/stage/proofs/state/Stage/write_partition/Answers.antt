@@ -10,74 +10,74 @@ use Rattle.stage.specs.View.{lanes, state_of, world}
 use Rattle.stage.proofs.Partitions.{same_table, same_fit, same_taken, same_coded, refused_square, refused_partition, refused_record, accepted}
 use Rattle.stage.proofs.state.Stage.write_partition.Goals as goal
 
-pub returns-in-err-ask-square : goal.returns-in-err-ask-square
-returns-in-err-ask-square g c =
+pub returns-in_err-ask_square : goal.returns-in_err-ask_square
+returns-in_err-ask_square g c =
     let k = g.S.Sink in
     let s = c.args.self.now in
-    let p = err_from_is_err_and c.from-residual.result c.from-residual.ensures.1 in
+    let p = err_from_is_err_and c.from_residual.result c.from_residual.ensures.1 in
     rw (p.1, p.2) (record {
       step = λ memory.
           refused_square (length memory) (k.rooms c.args.sink.now) (state_of s memory) s.journal (lanes c.args.log.now) (k.list c.args.sink.now)
-          c.args.x c.args.y c.args.bsize (number c.args.p) _ c.in-err-ask-square.ensures.answer;
+          c.args.x c.args.y c.args.bsize (number c.args.p) _ c.in_err-ask_square.ensures.answer;
       rooms = refl;
       still = λ h. (refl, refl);
       memory = search rules;
     })
 
-pub returns-then-not-is-allowed : goal.returns-then-not-is-allowed
-returns-then-not-is-allowed g c =
+pub returns-then-not-is_allowed : goal.returns-then-not-is_allowed
+returns-then-not-is_allowed g c =
     let k = g.S.Sink in
     let s = c.args.self.now in
     let x : ℕ = c.args.x in
     let y : ℕ = c.args.y in
     let z = c.args.bsize in
-    let r : Bool = c.has-rows-rows.result in
-    let b : Bool = c.has-cols-cols.result in
-    let first : ℕ = c.partition-table-first.result.0 in
-    let n : ℕ = c.partition-table-first.result.1 in
+    let r : Bool = c.has_rows-rows.result in
+    let b : Bool = c.has_cols-cols.result in
+    let first : ℕ = c.partition_table-first.result.0 in
+    let n : ℕ = c.partition_table-first.result.1 in
     let p : ℕ = c.number-p.result in
-    let lv : ℕ = c.width-log2-level.result - 3 in
-    let ctx : ℕ = c.partition-plane-context-ctx.result in
-    let lev : lv ≡ level z = ap (λ (e : ℕ). e - 3) c.width-log2-level.ensures in
-    let tab = λ (memory : List Cell). same_table (state_of s memory) x y z lv ctx first n lev c.partition-plane-context-ctx.ensures.value c.partition-table-first.ensures.value in
-    let fit = λ (memory : List Cell). c.is-allowed.ensures first ∙ same_fit (state_of s memory) x y z r b (table first n) p (number c.args.p) c.has-rows-rows.ensures c.has-cols-cols.ensures (tab memory) c.number-p.ensures.value in
-    let no : c.is-allowed.result ≡ false = search rules in
+    let lv : ℕ = c.width_log2-level.result - 3 in
+    let ctx : ℕ = c.partition_plane_context-ctx.result in
+    let lev : lv ≡ level z = ap (λ (e : ℕ). e - 3) c.width_log2-level.ensures in
+    let tab = λ (memory : List Cell). same_table (state_of s memory) x y z lv ctx first n lev c.partition_plane_context-ctx.ensures.value c.partition_table-first.ensures.value in
+    let fit = λ (memory : List Cell). c.is_allowed.ensures first ∙ same_fit (state_of s memory) x y z r b (table first n) p (number c.args.p) c.has_rows-rows.ensures c.has_cols-cols.ensures (tab memory) c.number-p.ensures.value in
+    let no : c.is_allowed.result ≡ false = search rules in
     record {
       step = λ memory.
           refused_partition (length memory) (k.rooms c.args.sink.now) (state_of s memory) s.journal (lanes c.args.log.now) (k.list c.args.sink.now) x y z (number c.args.p)
-          tt c.in-ok-ask-square.ensures.answer (sym (fit memory) ∙ no);
+          tt c.in_ok-ask_square.ensures.answer (sym (fit memory) ∙ no);
       rooms = refl;
       still = λ h. (refl, refl);
       memory = search rules;
     }
 
-pub returns-in-err-ask-record : goal.returns-in-err-ask-record
-returns-in-err-ask-record g c =
+pub returns-in_err-ask_record : goal.returns-in_err-ask_record
+returns-in_err-ask_record g c =
     let k = g.S.Sink in
     let s = c.args.self.now in
     let x : ℕ = c.args.x in
     let y : ℕ = c.args.y in
     let z = c.args.bsize in
-    let r : Bool = c.has-rows-rows.result in
-    let b : Bool = c.has-cols-cols.result in
-    let first : ℕ = c.partition-table-first.result.0 in
-    let n : ℕ = c.partition-table-first.result.1 in
+    let r : Bool = c.has_rows-rows.result in
+    let b : Bool = c.has_cols-cols.result in
+    let first : ℕ = c.partition_table-first.result.0 in
+    let n : ℕ = c.partition_table-first.result.1 in
     let p : ℕ = c.number-p.result in
-    let lv : ℕ = c.width-log2-level.result - 3 in
-    let ctx : ℕ = c.partition-plane-context-ctx.result in
-    let lev : lv ≡ level z = ap (λ (e : ℕ). e - 3) c.width-log2-level.ensures in
-    let tab = λ (memory : List Cell). same_table (state_of s memory) x y z lv ctx first n lev c.partition-plane-context-ctx.ensures.value c.partition-table-first.ensures.value in
-    let fit = λ (memory : List Cell). c.is-allowed.ensures first ∙ same_fit (state_of s memory) x y z r b (table first n) p (number c.args.p) c.has-rows-rows.ensures c.has-cols-cols.ensures (tab memory) c.number-p.ensures.value in
+    let lv : ℕ = c.width_log2-level.result - 3 in
+    let ctx : ℕ = c.partition_plane_context-ctx.result in
+    let lev : lv ≡ level z = ap (λ (e : ℕ). e - 3) c.width_log2-level.ensures in
+    let tab = λ (memory : List Cell). same_table (state_of s memory) x y z lv ctx first n lev c.partition_plane_context-ctx.ensures.value c.partition_table-first.ensures.value in
+    let fit = λ (memory : List Cell). c.is_allowed.ensures first ∙ same_fit (state_of s memory) x y z r b (table first n) p (number c.args.p) c.has_rows-rows.ensures c.has_cols-cols.ensures (tab memory) c.number-p.ensures.value in
     let needed = c.records-entries.ensures in
     let asked = λ (memory : List Cell).
     same_taken (state_of s memory) s.journal (lanes c.args.log.now) x y z r b (table first n) c.records-entries.result.0 c.records-entries.result.1 c.records-entries.result.2 c.room.result (k.rooms c.args.sink.now (k.list c.args.sink.now))
-    c.has-rows-rows.ensures c.has-cols-cols.ensures (tab memory) needed.0 needed.1 needed.2 c.room.ensures in
-    let yes : c.is-allowed.result ≡ true = search rules in
-    let e = err_from_is_err_and c.from-residual-in-err-ask-record.result c.from-residual-in-err-ask-record.ensures.1 in
+    c.has_rows-rows.ensures c.has_cols-cols.ensures (tab memory) needed.0 needed.1 needed.2 c.room.ensures in
+    let yes : c.is_allowed.result ≡ true = search rules in
+    let e = err_from_is_err_and c.from_residual-in_err-ask_record.result c.from_residual-in_err-ask_record.ensures.1 in
     rw (e.1, e.2) (record {
       step = λ memory.
           refused_record (length memory) (k.rooms c.args.sink.now) (state_of s memory) s.journal (lanes c.args.log.now) (k.list c.args.sink.now) x y z (number c.args.p)
-          tt c.in-ok-ask-square.ensures.answer _ (sym (fit memory) ∙ yes) (c.in-err-ask-record.ensures.answer ∙ asked memory);
+          tt c.in_ok-ask_square.ensures.answer _ (sym (fit memory) ∙ yes) (c.in_err-ask_record.ensures.answer ∙ asked memory);
       rooms = refl;
       still = λ h. (refl, refl);
       memory = search rules;
@@ -90,29 +90,29 @@ returns g c =
     let x : ℕ = c.args.x in
     let y : ℕ = c.args.y in
     let z = c.args.bsize in
-    let r : Bool = c.has-rows-rows.result in
-    let b : Bool = c.has-cols-cols.result in
-    let first : ℕ = c.partition-table-first.result.0 in
-    let n : ℕ = c.partition-table-first.result.1 in
+    let r : Bool = c.has_rows-rows.result in
+    let b : Bool = c.has_cols-cols.result in
+    let first : ℕ = c.partition_table-first.result.0 in
+    let n : ℕ = c.partition_table-first.result.1 in
     let p : ℕ = c.number-p.result in
-    let lv : ℕ = c.width-log2-level.result - 3 in
-    let ctx : ℕ = c.partition-plane-context-ctx.result in
-    let lev : lv ≡ level z = ap (λ (e : ℕ). e - 3) c.width-log2-level.ensures in
-    let tab = λ (memory : List Cell). same_table (state_of s memory) x y z lv ctx first n lev c.partition-plane-context-ctx.ensures.value c.partition-table-first.ensures.value in
-    let fit = λ (memory : List Cell). c.is-allowed.ensures first ∙ same_fit (state_of s memory) x y z r b (table first n) p (number c.args.p) c.has-rows-rows.ensures c.has-cols-cols.ensures (tab memory) c.number-p.ensures.value in
+    let lv : ℕ = c.width_log2-level.result - 3 in
+    let ctx : ℕ = c.partition_plane_context-ctx.result in
+    let lev : lv ≡ level z = ap (λ (e : ℕ). e - 3) c.width_log2-level.ensures in
+    let tab = λ (memory : List Cell). same_table (state_of s memory) x y z lv ctx first n lev c.partition_plane_context-ctx.ensures.value c.partition_table-first.ensures.value in
+    let fit = λ (memory : List Cell). c.is_allowed.ensures first ∙ same_fit (state_of s memory) x y z r b (table first n) p (number c.args.p) c.has_rows-rows.ensures c.has_cols-cols.ensures (tab memory) c.number-p.ensures.value in
     let needed = c.records-entries.ensures in
     let asked = λ (memory : List Cell).
     same_taken (state_of s memory) s.journal (lanes c.args.log.now) x y z r b (table first n) c.records-entries.result.0 c.records-entries.result.1 c.records-entries.result.2 c.room.result (k.rooms c.args.sink.now (k.list c.args.sink.now))
-    c.has-rows-rows.ensures c.has-cols-cols.ensures (tab memory) needed.0 needed.1 needed.2 c.room.ensures in
-    let yes : c.is-allowed.result ≡ true = search rules in
+    c.has_rows-rows.ensures c.has_cols-cols.ensures (tab memory) needed.0 needed.1 needed.2 c.room.ensures in
+    let yes : c.is_allowed.result ≡ true = search rules in
     record {
       step = λ memory.
           accepted (length memory) (k.rooms c.args.sink.now) (state_of s memory) s.journal (lanes c.args.log.now) (k.list c.args.sink.now) x y z (number c.args.p)
-          tt c.in-ok-ask-square.ensures.answer _ c.records-entries.result.0 tt (sym (fit memory) ∙ yes) (c.in-ok-ask-record.ensures.answer ∙ asked memory)
-          (needed.0 ∙ ap₂ entries_at c.has-rows-rows.ensures c.has-cols-cols.ensures)
-          (c.code-partition.ensures.step memory
-          ∙ same_coded (state_of s memory) x y z r b (table first n) p (number c.args.p) (world s memory (lanes c.args.log.now) (k.list c.args.sink.now)) c.has-rows-rows.ensures c.has-cols-cols.ensures (tab memory) c.number-p.ensures.value);
-      rooms = c.code-partition.ensures.rooms;
+          tt c.in_ok-ask_square.ensures.answer _ c.records-entries.result.0 tt (sym (fit memory) ∙ yes) (c.in_ok-ask_record.ensures.answer ∙ asked memory)
+          (needed.0 ∙ ap₂ entries_at c.has_rows-rows.ensures c.has_cols-cols.ensures)
+          (c.code_partition.ensures.step memory
+          ∙ same_coded (state_of s memory) x y z r b (table first n) p (number c.args.p) (world s memory (lanes c.args.log.now) (k.list c.args.sink.now)) c.has_rows-rows.ensures c.has_cols-cols.ensures (tab memory) c.number-p.ensures.value);
+      rooms = c.code_partition.ensures.rooms;
       still = λ h. absurd (both_ways true h refl);
-      memory = c.code-partition.ensures.memory;
+      memory = c.code_partition.ensures.memory;
     }

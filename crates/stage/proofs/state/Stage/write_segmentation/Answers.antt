@@ -12,15 +12,15 @@ use Rattle.stage.proofs.Calls.{asked_block}
 use Rattle.stage.proofs.Segments.{prediction_here, number_here, refused_block, refused_number, refused_record, accepted, map_segment}
 use Rattle.stage.proofs.state.Stage.write_segmentation.Goals as goal
 
-pub returns-in-err-block : goal.returns-in-err-block
-returns-in-err-block g c =
+pub returns-in_err-block : goal.returns-in_err-block
+returns-in_err-block g c =
     let k = g.S.Sink in
     let s = c.args.self.now in
-    let p = err_from_is_err_and c.from-residual.result c.from-residual.ensures.1 in
+    let p = err_from_is_err_and c.from_residual.result c.from_residual.ensures.1 in
     rw (p.1, p.2) (record {
       step =
           refused_block (length c.args.map.now) (k.rooms c.args.sink.now) (state_of s c.args.map.now) s.journal (lanes c.args.log.now) (k.list c.args.sink.now)
-          c.args.x c.args.y c.args.bsize c.args.skip c.args.segment _ c.in-err-block.ensures.answer;
+          c.args.x c.args.y c.args.bsize c.args.skip c.args.segment _ c.in_err-block.ensures.answer;
       cells = tt;
       behind = refl;
       rooms = refl;
@@ -37,7 +37,7 @@ returns-then-segment-self g c =
     record {
       step =
           refused_number (length c.args.map.now) (k.rooms c.args.sink.now) (state_of s c.args.map.now) s.journal (lanes c.args.log.now) (k.list c.args.sink.now)
-          c.args.x c.args.y c.args.bsize c.args.skip c.args.segment c.in-ok-block.block c.in-ok-block.ensures.answer unskipped above;
+          c.args.x c.args.y c.args.bsize c.args.skip c.args.segment c.in_ok-block.block c.in_ok-block.ensures.answer unskipped above;
       cells = tt;
       behind = refl;
       rooms = refl;
@@ -45,17 +45,17 @@ returns-then-segment-self g c =
       memory = search rules;
     }
 
-pub returns-in-err-ask-record : goal.returns-in-err-ask-record
-returns-in-err-ask-record g c =
+pub returns-in_err-ask_record : goal.returns-in_err-ask_record
+returns-in_err-ask_record g c =
     let k = g.S.Sink in
     let s = c.args.self.now in
     let active : c.args.skip ≡ false → c.args.segment ≤ s.last = search rules in
-    let p = err_from_is_err_and c.from-residual-in-err-ask-record.result c.from-residual-in-err-ask-record.ensures.1 in
+    let p = err_from_is_err_and c.from_residual-in_err-ask_record.result c.from_residual-in_err-ask_record.ensures.1 in
     rw (p.1, p.2) (record {
       step =
           refused_record (length c.args.map.now) (k.rooms c.args.sink.now) (state_of s c.args.map.now) s.journal (lanes c.args.log.now) (k.list c.args.sink.now)
-          c.args.x c.args.y c.args.bsize c.args.skip c.args.segment c.in-ok-block.block c.room.result _
-          c.in-ok-block.ensures.answer active c.room.ensures c.in-err-ask-record.ensures.answer;
+          c.args.x c.args.y c.args.bsize c.args.skip c.args.segment c.in_ok-block.block c.room.result _
+          c.in_ok-block.ensures.answer active c.room.ensures c.in_err-ask_record.ensures.answer;
       cells = tt;
       behind = refl;
       rooms = refl;
@@ -63,15 +63,15 @@ returns-in-err-ask-record g c =
       memory = search rules;
     })
 
-pub set-block-requires : goal.set-block-requires
-set-block-requires g c =
+pub set_block-requires : goal.set_block-requires
+set_block-requires g c =
     let s = c.args.self.now in
-    let inside = c.in-ok-block.ensures.inside in
-    let fit = c.in-ok-ask-record.ensures.lanes in
-    let coded = c.code-segment-set.ensures in
+    let inside = c.in_ok-block.ensures.inside in
+    let fit = c.in_ok-ask_record.ensures.lanes in
+    let coded = c.code_segment-set.ensures in
     let units : c.units.result ≡ s.tile.cols * s.tile.rows = c.units.ensures.value in
     let part : length (mid_of 0 (c.units.result - 0) c.args.map.now) ≡ c.units.result =
-    part_long c.args.map.now c.units.result (c.units.result - 0) (omega arith) (omega (arith, c.in-ok-block.ensures.mapped, units)) in
+    part_long c.args.map.now c.units.result (c.units.result - 0) (omega arith) (omega (arith, c.in_ok-block.ensures.mapped, units)) in
     let columns : c.cols.result ≡ s.tile.cols = c.cols.ensures in
     record {
       inside = λ i h. omega (arith, inside.row i h, part, units, ap (λ n. i * n) columns);
@@ -79,11 +79,11 @@ set-block-requires g c =
       room = λ some. omega (arith, fit.spots (omega (arith, coded.trials)), coded.spots, coded.memory.spots_long);
     }
 
-pub invariant-of-self : goal.invariant-of-self
-invariant-of-self g c =
-    let s = c.code-segment-set.new.self in
-    let b = c.in-ok-block.block in
-    let kept = c.set-block.ensures.kept in (
+pub invariant_of-self : goal.invariant_of-self
+invariant_of-self g c =
+    let s = c.code_segment-set.new.self in
+    let b = c.in_ok-block.block in
+    let kept = c.set_block.ensures.kept in (
       s.ends,
       (
         omega (arith, kept.0, s.few),
@@ -92,8 +92,8 @@ invariant-of-self g c =
           (
             s.beside,
             (
-              still_quiet (change.Segment c.code-segment-set.result) (block_cells c.cols.result b.width b.from b.height) s.journal c.set-block.new.self
-                  (mid_of 0 (c.units.result - 0) c.args.map.now) c.set-block.new.cells c.code-segment-set.new.log.spots.now _ kept c.set-block.ensures.cells s.quiet,
+              still_quiet (change.Segment c.code_segment-set.result) (block_cells c.cols.result b.width b.from b.height) s.journal c.set_block.new.self
+                  (mid_of 0 (c.units.result - 0) c.args.map.now) c.set_block.new.cells c.code_segment-set.new.log.spots.now _ kept c.set_block.ensures.cells s.quiet,
               tt,
             ),
           ),
@@ -105,49 +105,49 @@ pub returns : goal.returns
 returns g c =
     let k = g.S.Sink in
     let s = c.args.self.now in
-    let s' = c.code-segment-set.new.self in
-    let coded = c.code-segment-set.ensures in
+    let s' = c.code_segment-set.new.self in
+    let coded = c.code_segment-set.ensures in
     let map : List Cell = c.args.map.now in
     let x : ℕ = c.args.x in
     let y : ℕ = c.args.y in
     let n : ℕ = c.units.result in
-    let kept = c.set-block.ensures.kept in
+    let kept = c.set_block.ensures.kept in
     let active : c.args.skip ≡ false → c.args.segment ≤ s.last = search rules in
     let part : n - 0 ≡ n = omega arith in
     let units : n ≡ s.tile.cols * s.tile.rows = c.units.ensures.value in
     let units' : n ≡ s'.tile.cols * s'.tile.rows = units ∙ sym (ap (λ (t : Tile). t.cols * t.rows) coded.tile) in
-    let fits : n ≤ length map = omega (arith, c.in-ok-block.ensures.mapped, units) in
-    let long = c.set-block.auto.cells in
+    let fits : n ≤ length map = omega (arith, c.in_ok-block.ensures.mapped, units) in
+    let long = c.set_block.auto.cells in
     let own : mid_of 0 (n - 0) map ≡ take (s'.tile.cols * s'.tile.rows) map = ap (λ (i : ℕ). take i map) (part ∙ units') in
     let here = state_of s map in
-    let near : c.get-segment-pred-prediction.result.0 ≡ prediction here x y =
-    c.get-segment-pred-prediction.ensures.prediction
+    let near : c.get_segment_pred-prediction.result.0 ≡ prediction here x y =
+    c.get_segment_pred-prediction.ensures.prediction
     ∙ ap (λ (i : ℕ). min (natural (near_segments s.tile.cols s.tile.rows (take i map) segment_prediction x y)) s.last) (part ∙ units) ∙ prediction_here here x y in
-    let number : c.get-segment-pred-prediction.result.1 ≡ segment_number here x y =
-    c.get-segment-pred-prediction.ensures.number
+    let number : c.get_segment_pred-prediction.result.1 ≡ segment_number here x y =
+    c.get_segment_pred-prediction.ensures.number
     ∙ ap (λ (i : ℕ). near_segments s.tile.cols s.tile.rows (take i map) segment_context x y) (part ∙ units) ∙ number_here here x y in
-    let after : List Cell = put_mid 0 (n - 0) map c.set-block.new.cells in
+    let after : List Cell = put_mid 0 (n - 0) map c.set_block.new.cells in
     let step =
     accepted (length map) (k.rooms c.args.sink.now) here s.journal (lanes c.args.log.now) (k.list c.args.sink.now)
     x y c.args.bsize c.args.skip c.args.segment
-    (state_of s' map) s'.journal c.set-block.new.self (lanes c.code-segment-set.new.log) _ (k.list c.code-segment-set.new.sink)
-    (mid_of 0 (n - 0) map) c.set-block.new.cells _ c.get-segment-pred-prediction.result.1 c.get-segment-pred-prediction.result.0 c.code-segment-set.result
-    c.cols.result c.room.result c.in-ok-block.block c.in-ok-ask-record.field-0
+    (state_of s' map) s'.journal c.set_block.new.self (lanes c.code_segment-set.new.log) _ (k.list c.code_segment-set.new.sink)
+    (mid_of 0 (n - 0) map) c.set_block.new.cells _ c.get_segment_pred-prediction.result.1 c.get_segment_pred-prediction.result.0 c.code_segment-set.result
+    c.cols.result c.room.result c.in_ok-block.block c.in_ok-ask_record.field-0
     (ap (λ (t : Tile). t.cols) coded.tile) (ap (λ (t : Tile). t.rows) coded.tile) number near coded.segment
-    (coded.step map) c.in-ok-block.ensures.answer active c.room.ensures c.in-ok-ask-record.ensures.answer
+    (coded.step map) c.in_ok-block.ensures.answer active c.room.ensures c.in_ok-ask_record.ensures.answer
     (c.cols.ensures ∙ sym (ap (λ (t : Tile). t.cols) coded.tile)) own
-    (ap (λ (i : ℕ). take i (put_mid 0 (n - 0) map c.set-block.new.cells)) (sym units') ∙ part_taken map c.set-block.new.cells n (n - 0) part fits long)
-    c.set-block.ensures.cells refl refl kept.0 kept.1 kept.2 kept.3 in
+    (ap (λ (i : ℕ). take i (put_mid 0 (n - 0) map c.set_block.new.cells)) (sym units') ∙ part_taken map c.set_block.new.cells n (n - 0) part fits long)
+    c.set_block.ensures.cells refl refl kept.0 kept.1 kept.2 kept.3 in
     record {
       step = step;
       cells =
           map_segment (length map) (k.rooms c.args.sink.now) (world s map (lanes c.args.log.now) (k.list c.args.sink.now)) _ s.tile map after
-          x y c.args.bsize c.args.skip c.args.segment _ c.code-segment-set.result step
+          x y c.args.bsize c.args.skip c.args.segment _ c.code_segment-set.result step
           (coded.segment ∙ ap (λ (i : ℕ). segment_decided c.args.skip i c.args.segment) near) refl refl refl
-          (ap (λ (t : Tile). take (t.cols * t.rows) after) coded.tile) c.in-ok-block.ensures.mapped
-          (asked_block s.tile.cols s.tile.rows (length map) 64 x y c.args.bsize c.in-ok-block.block c.in-ok-block.ensures.answer).0;
+          (ap (λ (t : Tile). take (t.cols * t.rows) after) coded.tile) c.in_ok-block.ensures.mapped
+          (asked_block s.tile.cols s.tile.rows (length map) 64 x y c.args.bsize c.in_ok-block.block c.in_ok-block.ensures.answer).0;
       behind =
-          ap (λ (i : ℕ). drop i (put_mid 0 (n - 0) map c.set-block.new.cells)) (sym units) ∙ part_dropped map c.set-block.new.cells n (n - 0) part fits long ∙ ap (λ (i : ℕ). drop i map) units;
+          ap (λ (i : ℕ). drop i (put_mid 0 (n - 0) map c.set_block.new.cells)) (sym units) ∙ part_dropped map c.set_block.new.cells n (n - 0) part fits long ∙ ap (λ (i : ℕ). drop i map) units;
       rooms = coded.rooms;
       still = search rules;
       memory = search rules;

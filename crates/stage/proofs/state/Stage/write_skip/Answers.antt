@@ -14,15 +14,15 @@ use Rattle.stage.proofs.Calls.{asked_block}
 use Rattle.stage.proofs.Skips.{refused_block, refused_record, accepted, flag_set}
 use Rattle.stage.proofs.state.Stage.write_skip.Goals as goal
 
-pub returns-in-err-block : goal.returns-in-err-block
-returns-in-err-block g c =
+pub returns-in_err-block : goal.returns-in_err-block
+returns-in_err-block g c =
     let k = g.S.Sink in
     let s = c.args.self.now in
-    let p = err_from_is_err_and c.from-residual.result c.from-residual.ensures.1 in
+    let p = err_from_is_err_and c.from_residual.result c.from_residual.ensures.1 in
     rw (p.1, p.2) (record {
       step =
           refused_block (length c.args.map.now) (k.rooms c.args.sink.now) (state_of s c.args.map.now) s.journal (lanes c.args.log.now) (k.list c.args.sink.now)
-          c.args.x c.args.y c.args.bsize c.args.skip _ c.in-err-block.ensures.answer;
+          c.args.x c.args.y c.args.bsize c.args.skip _ c.in_err-block.ensures.answer;
       cells = λ h. absurd (both_ways false refl h);
       behind = refl;
       rooms = refl;
@@ -30,16 +30,16 @@ returns-in-err-block g c =
       memory = search rules;
     })
 
-pub returns-in-err-ask-record : goal.returns-in-err-ask-record
-returns-in-err-ask-record g c =
+pub returns-in_err-ask_record : goal.returns-in_err-ask_record
+returns-in_err-ask_record g c =
     let k = g.S.Sink in
     let s = c.args.self.now in
-    let p = err_from_is_err_and c.from-residual-in-err-ask-record.result c.from-residual-in-err-ask-record.ensures.1 in
+    let p = err_from_is_err_and c.from_residual-in_err-ask_record.result c.from_residual-in_err-ask_record.ensures.1 in
     rw (p.1, p.2) (record {
       step =
           refused_record (length c.args.map.now) (k.rooms c.args.sink.now) (state_of s c.args.map.now) s.journal (lanes c.args.log.now) (k.list c.args.sink.now)
-          c.args.x c.args.y c.args.bsize c.args.skip c.in-ok-block.block c.room.result _
-          c.in-ok-block.ensures.answer c.room.ensures c.in-err-ask-record.ensures.answer;
+          c.args.x c.args.y c.args.bsize c.args.skip c.in_ok-block.block c.room.result _
+          c.in_ok-block.ensures.answer c.room.ensures c.in_err-ask_record.ensures.answer;
       cells = λ h. absurd (both_ways false refl h);
       behind = refl;
       rooms = refl;
@@ -49,23 +49,23 @@ returns-in-err-ask-record g c =
 
 pub symbol-requires : goal.symbol-requires
 symbol-requires g c =
-    let fit = c.in-ok-ask-record.ensures.lanes in
+    let fit = c.in_ok-ask_record.ensures.lanes in
     record {
-      table = skip_in_layout c.skip-context-ctx.result (omega (arith, c.skip-context-ctx.ensures.most));
+      table = skip_in_layout c.skip_context-ctx.result (omega (arith, c.skip_context-ctx.ensures.most));
       symbol = search rules;
-      room = omega (arith, c.in-ok-ask-record.ensures.room, c.room.ensures);
+      room = omega (arith, c.in_ok-ask_record.ensures.room, c.room.ensures);
       small = λ some few. omega (arith, fit.small some);
       large = λ some many. omega arith;
     }
 
-pub set-block-requires : goal.set-block-requires
-set-block-requires g c =
+pub set_block-requires : goal.set_block-requires
+set_block-requires g c =
     let s = c.args.self.now in
-    let inside = c.in-ok-block.ensures.inside in
-    let fit = c.in-ok-ask-record.ensures.lanes in
+    let inside = c.in_ok-block.ensures.inside in
+    let fit = c.in_ok-ask_record.ensures.lanes in
     let units : c.units.result ≡ s.tile.cols * s.tile.rows = c.units.ensures.value in
     let part : length (mid_of 0 (c.units.result - 0) c.args.map.now) ≡ c.units.result =
-    part_long c.args.map.now c.units.result (c.units.result - 0) (omega arith) (omega (arith, c.in-ok-block.ensures.mapped, units)) in
+    part_long c.args.map.now c.units.result (c.units.result - 0) (omega arith) (omega (arith, c.in_ok-block.ensures.mapped, units)) in
     let columns : c.cols.result ≡ s.tile.cols = c.cols.ensures in
     record {
       inside = λ i h. omega (arith, inside.row i h, part, units, ap (λ n. i * n) columns);
@@ -73,11 +73,11 @@ set-block-requires g c =
       room = λ some. omega (arith, fit.spots (omega (arith, c.symbol.ensures.trials)), c.symbol.ensures.spots, c.symbol.ensures.memory.spots_long);
     }
 
-pub invariant-of-self : goal.invariant-of-self
-invariant-of-self g c =
+pub invariant_of-self : goal.invariant_of-self
+invariant_of-self g c =
     let s = c.symbol.new.self in
-    let b = c.in-ok-block.block in
-    let kept = c.set-block.ensures.kept in (
+    let b = c.in_ok-block.block in
+    let kept = c.set_block.ensures.kept in (
       s.ends,
       (
         omega (arith, kept.0, s.few),
@@ -86,8 +86,8 @@ invariant-of-self g c =
           (
             s.beside,
             (
-              still_quiet (change.Skip c.args.skip) (block_cells c.cols.result b.width b.from b.height) s.journal c.set-block.new.self
-                  (mid_of 0 (c.units.result - 0) c.args.map.now) c.set-block.new.cells c.symbol.new.log.spots.now _ kept c.set-block.ensures.cells s.quiet,
+              still_quiet (change.Skip c.args.skip) (block_cells c.cols.result b.width b.from b.height) s.journal c.set_block.new.self
+                  (mid_of 0 (c.units.result - 0) c.args.map.now) c.set_block.new.cells c.symbol.new.log.spots.now _ kept c.set_block.ensures.cells s.quiet,
               tt,
             ),
           ),
@@ -102,36 +102,36 @@ returns g c =
     let s' = c.symbol.new.self in
     let map : List Cell = c.args.map.now in
     let n : ℕ = c.units.result in
-    let kept = c.set-block.ensures.kept in
+    let kept = c.set_block.ensures.kept in
     let part : n - 0 ≡ n = omega arith in
     let units : n ≡ s.tile.cols * s.tile.rows = c.units.ensures.value in
     let units' : n ≡ s'.tile.cols * s'.tile.rows = units ∙ sym (ap (λ (t : Tile). t.cols * t.rows) c.symbol.ensures.tile) in
-    let fits : n ≤ length map = omega (arith, c.in-ok-block.ensures.mapped, units) in
-    let long = c.set-block.auto.cells in
+    let fits : n ≤ length map = omega (arith, c.in_ok-block.ensures.mapped, units) in
+    let long = c.set_block.auto.cells in
     let own : mid_of 0 (n - 0) map ≡ take (s'.tile.cols * s'.tile.rows) map = ap (λ (i : ℕ). take i map) (part ∙ units') in
-    let context : c.skip-context-ctx.result ≡ skip_context s.tile.cols s.tile.rows (take (s.tile.cols * s.tile.rows) map) c.args.x c.args.y =
-    c.skip-context-ctx.ensures.value ∙ ap (λ (i : ℕ). skip_context s.tile.cols s.tile.rows (take i map) c.args.x c.args.y) (part ∙ units) in
-    let after : List Cell = put_mid 0 (n - 0) map c.set-block.new.cells in
+    let context : c.skip_context-ctx.result ≡ skip_context s.tile.cols s.tile.rows (take (s.tile.cols * s.tile.rows) map) c.args.x c.args.y =
+    c.skip_context-ctx.ensures.value ∙ ap (λ (i : ℕ). skip_context s.tile.cols s.tile.rows (take i map) c.args.x c.args.y) (part ∙ units) in
+    let after : List Cell = put_mid 0 (n - 0) map c.set_block.new.cells in
     let from = state_of s map in
     let step =
     accepted (length map) (k.rooms c.args.sink.now) from s.journal (lanes c.args.log.now) (k.list c.args.sink.now)
     c.args.x c.args.y c.args.bsize c.args.skip
-    (state_of s' map) s'.journal c.set-block.new.self (lanes c.symbol.new.log) _ (k.list c.symbol.new.sink)
-    (mid_of 0 (n - 0) map) c.set-block.new.cells _ c.skip-context-ctx.result c.cols.result c.room.result c.in-ok-block.block c.in-ok-ask-record.field-0
+    (state_of s' map) s'.journal c.set_block.new.self (lanes c.symbol.new.log) _ (k.list c.symbol.new.sink)
+    (mid_of 0 (n - 0) map) c.set_block.new.cells _ c.skip_context-ctx.result c.cols.result c.room.result c.in_ok-block.block c.in_ok-ask_record.field-0
     (ap (λ (t : Tile). t.cols) c.symbol.ensures.tile) (ap (λ (t : Tile). t.rows) c.symbol.ensures.tile) context
-    (c.symbol.ensures.step map) c.in-ok-block.ensures.answer c.room.ensures c.in-ok-ask-record.ensures.answer
+    (c.symbol.ensures.step map) c.in_ok-block.ensures.answer c.room.ensures c.in_ok-ask_record.ensures.answer
     (c.cols.ensures ∙ sym (ap (λ (t : Tile). t.cols) c.symbol.ensures.tile)) own
-    (ap (λ (i : ℕ). take i (put_mid 0 (n - 0) map c.set-block.new.cells)) (sym units') ∙ part_taken map c.set-block.new.cells n (n - 0) part fits long)
-    c.set-block.ensures.cells refl refl kept.0 kept.1 kept.2 kept.3 in
+    (ap (λ (i : ℕ). take i (put_mid 0 (n - 0) map c.set_block.new.cells)) (sym units') ∙ part_taken map c.set_block.new.cells n (n - 0) part fits long)
+    c.set_block.ensures.cells refl refl kept.0 kept.1 kept.2 kept.3 in
     record {
       step = step;
       cells = λ ok.
           flag_set (length map) (k.rooms c.args.sink.now) (world s map (lanes c.args.log.now) (k.list c.args.sink.now)) _ s.tile map after
           c.args.x c.args.y c.args.bsize c.args.skip step refl refl refl
-          (ap (λ (t : Tile). take (t.cols * t.rows) after) c.symbol.ensures.tile) c.in-ok-block.ensures.mapped
-          (asked_block s.tile.cols s.tile.rows (length map) 64 c.args.x c.args.y c.args.bsize c.in-ok-block.block c.in-ok-block.ensures.answer).0;
+          (ap (λ (t : Tile). take (t.cols * t.rows) after) c.symbol.ensures.tile) c.in_ok-block.ensures.mapped
+          (asked_block s.tile.cols s.tile.rows (length map) 64 c.args.x c.args.y c.args.bsize c.in_ok-block.block c.in_ok-block.ensures.answer).0;
       behind =
-          ap (λ (i : ℕ). drop i (put_mid 0 (n - 0) map c.set-block.new.cells)) (sym units) ∙ part_dropped map c.set-block.new.cells n (n - 0) part fits long ∙ ap (λ (i : ℕ). drop i map) units;
+          ap (λ (i : ℕ). drop i (put_mid 0 (n - 0) map c.set_block.new.cells)) (sym units) ∙ part_dropped map c.set_block.new.cells n (n - 0) part fits long ∙ ap (λ (i : ℕ). drop i map) units;
       rooms = c.symbol.ensures.rooms;
       still = search rules;
       memory = search rules;
