@@ -1,6 +1,6 @@
 -- A spot put back restores a cell or a context byte, and nothing else.
 use Rattle.std.specs.Prelude.{◌≡◌, ℕ, ◌<◌, Bool, true, false, cond, List, length, nat_lt, slice_set, refl}
-use Rattle.std.proofs.Common.{ap, sym, ◌∙◌}
+use Rattle.std.proofs.Common.{ap, ◌∙◌}
 use Rattle.std.proofs.lemmas.List.{length-set, set-set}
 use Rattle.av1.specs.declared.tile.Cell.{Cell}
 use Rattle.journal.specs.declared.Spot.{Spot}
@@ -33,8 +33,8 @@ area_of p = area p.above.now p.left.now p.cells.now
 abbrev pub with_area : Places → Area → Places
 with_area p a =
     record {
-      above = record { ref_ptr = p.above.ptr; ghost_name = p.above.name; now = a.above };
-      left = record { ref_ptr = p.left.ptr; ghost_name = p.left.name; now = a.left };
+      above = record { ref_ptr = p.above.ref_ptr; ghost_name = p.above.ghost_name; now = a.above };
+      left = record { ref_ptr = p.left.ref_ptr; ghost_name = p.left.ghost_name; now = a.left };
       cells = record { ref_ptr = p.cells.ref_ptr; ghost_name = p.cells.ghost_name; now = a.cells };
     }
 

@@ -1,11 +1,10 @@
 -- A window put back into the tables restores the words that it holds, and no others.
-use Rattle.std.specs.Prelude.{◌≡◌, ℕ, ◌+◌, ◌≤◌, Bool, true, false, cond, ◌&&◌, leb, List, ◌++◌, length, take, drop, refl}
+use Rattle.std.specs.Prelude.{◌≡◌, ℕ, ◌+◌, ◌≤◌, Bool, true, false, cond, ◌&&◌, List, ◌++◌, length, take, drop, refl}
 use Rattle.std.proofs.Common.{sym, ap, ap₂, ◌∙◌, arith, le→leb}
 use Rattle.std.proofs.lemmas.List.Edits.{sets}
 use Rattle.cdf.specs.declared.tables.Tables.{Tables}
 use Rattle.cdf.specs.Layout.{lawful, words_in_all, SoundWords}
 use Rattle.cdf.specs.Windows.{window, taken_window, put_window}
-use Rattle.cdf.specs.Words.{Words}
 use Rattle.cdf.proofs.Booleans.{T→true}
 use Rattle.cdf.proofs.Regions.{put_sound}
 use Rattle.cdf.proofs.SameWords.{same_words}

@@ -1,4 +1,4 @@
-use Rattle.std.proofs.Common.{◌≡◌, ap, ◌∙◌, rules}
+use Rattle.std.proofs.Common.{ap, ◌∙◌, rules}
 use Rattle.journal.specs.declared.spots.Places.{Places}
 use Rattle.journal.specs.Spots.{area_of}
 use Rattle.journal.specs.Walks.{visited}

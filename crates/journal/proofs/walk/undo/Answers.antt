@@ -1,4 +1,4 @@
-use Rattle.std.proofs.Common.{◌≡◌, ◌+◌, ◌-◌, ◌<◌, ◌≤◌, min, length, sym, ap, ◌∙◌, arith, rules}
+use Rattle.std.proofs.Common.{◌≡◌, ◌+◌, ◌-◌, ◌<◌, ◌≤◌, length, sym, ap, ◌∙◌, arith, rules}
 use Rattle.journal.specs.Walks.{visited, undone}
 use Rattle.journal.proofs.Walking.{visited_all, visited_none, visited_number, undone_step, logged_back}
 use Rattle.journal.proofs.walk.undo.Goals as goal
