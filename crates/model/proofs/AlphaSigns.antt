@@ -1,5 +1,5 @@
 -- The alphas' symbols lead to them.
-use Rattle.std.proofs.Common.{◌≡◌, ℕ, zero, suc, ◌+◌, ◌-◌, ◌*◌, ◌/◌, ◌%◌, ◌<◌, ◌≤◌, Bool, true, false, not, ◌&&◌, T, eqb, leb, List, [], ◌∷◌, ◌++◌, ℤ, pos, negsuc, sym, refl, ap, ◌∙◌, subst, arith, leb→le}
+use Rattle.std.proofs.Common.{zero, suc, ◌≤◌, not, ◌&&◌, T, eqb, leb, ℤ, pos, negsuc, refl, arith, leb→le}
 use Rattle.av1.specs.Alphas.{alphas_allowed}
 use Rattle.av1.specs.Vectors.{magnitude}
 use Rattle.cdf.proofs.Booleans.{and_first, and_second}

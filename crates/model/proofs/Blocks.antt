@@ -1,6 +1,6 @@
 -- The cells that a decision sets, unit by unit.
-use Rattle.std.proofs.Common.{◌≡◌, ℕ, zero, suc, ◌+◌, ◌-◌, ◌*◌, ◌<◌, ◌≤◌, min, Bool, true, false, cond, ◌&&◌, ◌||◌, T, eqb, ltb, leb, List, [], ◌∷◌, ◌++◌, map, length, get_or, set, sym, refl, ap, ◌∙◌, subst, ap₂, mul-le-mul_right, add-mul, one-mul, arith, le→leb, eqb→eq, ltb→lt, lt→ltb, leb→le}
-use native.Mathlib.Decide.{dec_lt, dec_le, ℕ_discrete}
+use Rattle.std.proofs.Common.{◌≡◌, ℕ, zero, suc, ◌+◌, ◌-◌, ◌*◌, ◌<◌, ◌≤◌, min, Bool, true, false, cond, ◌&&◌, ◌||◌, T, eqb, ltb, leb, List, [], ◌∷◌, ◌++◌, map, length, get_or, set, sym, refl, ap, ◌∙◌, subst, mul-le-mul_right, add-mul, one-mul, arith, le→leb, eqb→eq, ltb→lt, lt→ltb, leb→le}
+use native.Mathlib.Decide.{dec_lt, ℕ_discrete}
 use lib.Dec.{eqb_refl}
 use Rattle.std.proofs.lemmas.List.{length-set, get_or-set_same, get_or-set_other}
 use Rattle.av1.specs.declared.size.BlockSize.{BlockSize}
@@ -11,7 +11,7 @@ use Rattle.cdf.specs.Lists.{from, Each}
 use Rattle.cdf.proofs.Booleans.{and_first, and_second, and_both, true→T, T→true, not-T→false, same_test}
 use Rattle.journal.specs.declared.Spot.{Spot}
 use Rattle.journal.specs.declared.Spot.TheVariants as spot
-use Rattle.model.specs.Decisions.{State, units, in_tile, put_at, put_spot, put_spots, block_cells, cells_of, skip_spot, segment_spot}
+use Rattle.model.specs.Decisions.{State, units, in_tile, put_spot, put_spots, block_cells, cells_of}
 use Rattle.model.specs.Facts.{unit_at, covers, with_cells, SkipSet, SegmentSet}
 use Rattle.model.proofs.Facts.{cells_inside}
 

@@ -1,6 +1,5 @@
 -- The worked examples hold, and a start is sound.
-use Rattle.std.proofs.Common.{◌≡◌, ℕ, ◌*◌, ◌≤◌, Bool, true, false, ◌&&◌, T, leb, List, [], ◌∷◌, length, replicate, sym, refl, ap, ◌∙◌, subst, leb→le}
-use mathlib.Core.Option.{Option, none, some}
+use Rattle.std.proofs.Common.{◌*◌, ◌&&◌, T, leb, refl, leb→le}
 use Rattle.std.proofs.lemmas.List.{length-replicate}
 use Rattle.av1.specs.declared.refusal.Refusal.TheVariants as no
 use Rattle.av1.specs.Sides.{side}

@@ -1,15 +1,13 @@
 -- The record reads back, and tells two runs apart.
-use Rattle.std.proofs.Common.{◌≡◌, ℕ, zero, suc, ◌+◌, ◌<◌, ◌≤◌, ◌≢◌, List, [], ◌∷◌, ◌++◌, map, length, get_or, take, drop, sym, refl, ap, ◌∙◌, subst, ap₂, subst₂, arith}
-use mathlib.Core.Path.{subst₃}
-use mathlib.Core.Option.{Option, none, some}
+use Rattle.std.proofs.Common.{◌≡◌, ℕ, suc, ◌+◌, ◌≤◌, ◌≢◌, List, [], ◌∷◌, ◌++◌, map, length, sym, refl, ap, ◌∙◌, subst, subst₂, arith}
+use mathlib.Core.Option.{none}
 use Rattle.std.proofs.lemmas.List.{append_assoc, append-nil, length-append, map-append, get_or_append_left}
 use Rattle.cdf.specs.declared.entry.Entry.{Entry}
-use Rattle.av1.specs.declared.refusal.Refusal.{Refusal}
 use Rattle.cdf.specs.Words.{Words}
 use Rattle.model.proofs.Standing.{Fine, Reached, map_fine, or_else_both, or_else_first, run_reached}
 use Rattle.model.proofs.Trees.{reads_back, tells_apart}
-use Rattle.model.specs.Coders.{after, symbols}
-use Rattle.model.specs.Runs.{Core, Laws, Ran, ReadsRecord, Standing, TellsRunsApart, all_read, asked, empty_book, fresh, map_asked_if, next_state, question_of, read_asked, reads, run, sent, symbol, with_first, worked}
+use Rattle.model.specs.Coders.{after}
+use Rattle.model.specs.Runs.{Core, Laws, Ran, ReadsRecord, Standing, TellsRunsApart, all_read, empty_book, fresh, map_asked_if, next_state, question_of, read_asked, reads, run, sent, symbol, with_first, worked}
 use Rattle.model.specs.Subject.{Subject}
 use Rattle.model.specs.Tree.{Apart, Leads, Syntax, coded, done, never, read, read_as, written}
 

@@ -1,5 +1,5 @@
 -- The joint of a vector, the sign of a component, and the signs of alphas.
-use Rattle.std.proofs.Common.{◌≡◌, zero, suc, pos, negsuc, refl, arith}
+use Rattle.std.proofs.Common.{zero, suc, pos, negsuc, refl, arith}
 use Rattle.model.specs.Facts.{JointNames, SignFirst, SignsJoined}
 
 pub joint_names : JointNames

@@ -1,15 +1,13 @@
 -- The stage's subject has the laws, and so the theorems over whole runs.
-use Rattle.std.proofs.Common.{◌≡◌, ℕ, zero, suc, ◌+◌, ◌-◌, ◌*◌, ◌/◌, ◌%◌, ◌<◌, ◌≤◌, min, Bool, true, false, cond, not, ◌&&◌, ◌||◌, T, eqb, ltb, leb, List, [], ◌∷◌, ◌++◌, map, length, get_or, take, drop, set, ℤ, pos, negsuc, sym, refl, ap, ◌∙◌, subst, ap₂, subst₂, arith, le→leb, eqb→eq, ltb→lt, leb→le}
-use mathlib.Core.Option.{Option, none, some}
-use lib.Seq.{sets, length-sets}
+use Rattle.std.proofs.Common.{◌≡◌, ℕ, ◌+◌, ◌*◌, ◌<◌, ◌≤◌, Bool, true, false, cond, not, ◌&&◌, ◌||◌, T, eqb, ltb, leb, List, [], ◌∷◌, length, get_or, set, sym, refl, ap, ◌∙◌, subst, ap₂, arith, le→leb, eqb→eq, ltb→lt, leb→le}
+use mathlib.Core.Option.{none}
+use lib.Seq.{sets}
 use Rattle.std.proofs.lemmas.List.{set-set, set-get_or, length-take, length-set}
-use Rattle.av1.specs.declared.tile.Cell.{Cell}
 use Rattle.journal.specs.declared.Window.{Window}
 use Rattle.journal.specs.declared.Spot.{Spot}
 use Rattle.journal.specs.declared.Spot.TheVariants as spot
 use Rattle.model.specs.declared.Question.{Question}
 use Rattle.model.specs.declared.Question.TheVariants as of
-use Rattle.av1.specs.declared.refusal.Refusal.{Refusal}
 use Rattle.av1.specs.declared.refusal.Refusal.TheVariants as no
 use Rattle.av1.specs.Alphas.{alphas_allowed}
 use Rattle.av1.proofs.Segments.{segment_back}

@@ -1,9 +1,9 @@
 -- Trials leave no trace: the invariant of a run, and that every call keeps it.
-use Rattle.std.proofs.Common.{◌≡◌, ℕ, zero, suc, ◌+◌, ◌<◌, ◌≤◌, min, Bool, true, false, ◌&&◌, T, eqb, ltb, leb, List, [], ◌∷◌, ◌++◌, map, length, get_or, take, drop, set, sym, refl, ap, ◌∙◌, subst, ap₂, subst₂, arith, le→leb, leb→le}
+use Rattle.std.proofs.Common.{◌≡◌, ℕ, ◌+◌, ◌≤◌, min, Bool, true, false, ◌&&◌, T, leb, List, [], ◌∷◌, ◌++◌, map, length, take, sym, refl, ap, ◌∙◌, subst, subst₂, arith, le→leb, leb→le}
 use mathlib.Core.Path.{subst₃}
 use mathlib.Core.Option.{Option, none, some, none-ne-some}
-use lib.Seq.{take-length, drop-length}
-use Rattle.std.proofs.lemmas.List.{append_assoc, append-nil, length-set, length-take, length-append, take-take, take_all, drop_all, take-append-le, drop-append-le, take-append-drop, map-append}
+use lib.Seq.{take-length}
+use Rattle.std.proofs.lemmas.List.{length-take, length-append, take-take, take_all, drop_all, take-append-le, drop-append-le}
 use Rattle.cdf.specs.declared.entry.Entry.{Entry}
 use Rattle.av1.specs.declared.refusal.Refusal.{Refusal}
 use Rattle.av1.specs.declared.refusal.Refusal.TheVariants as no

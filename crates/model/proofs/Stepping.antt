@@ -1,10 +1,9 @@
 -- A decision is its symbols and then its spots.
-use Rattle.std.proofs.Common.{◌≡◌, ℕ, zero, suc, ◌<◌, Bool, true, false, not, leb, List, [], ◌∷◌, ◌++◌, length, sym, refl, ap, ◌∙◌, subst}
+use Rattle.std.proofs.Common.{◌≡◌, ℕ, Bool, true, false, not, leb, List, [], ◌∷◌, ◌++◌, sym, refl, ap, ◌∙◌}
 use Rattle.std.proofs.lemmas.List.{append_assoc, append-nil}
 use Rattle.cdf.specs.declared.entry.Entry.{Entry}
 use Rattle.journal.specs.declared.Window.{Window}
 use Rattle.journal.specs.declared.Spot.{Spot}
-use Rattle.model.specs.declared.Question.{Question}
 use Rattle.journal.specs.declared.Mark.{Mark}
 use Rattle.cdf.specs.Words.{Words}
 use Rattle.model.specs.Calls.{BySteps, StepsThen, large_log, log_if, small_log, spot_step, spot_steps, symbol_step, symbol_steps}

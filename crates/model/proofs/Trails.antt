@@ -1,6 +1,6 @@
 -- Undo records in lists and lanes.
-use Rattle.std.proofs.Common.{◌≡◌, ℕ, zero, suc, ◌+◌, ◌<◌, ◌≤◌, min, Bool, true, false, ◌&&◌, List, [], ◌∷◌, ◌++◌, length, get_or, take, drop, set, sym, refl, ap, ◌∙◌, subst, ap₂, add-suc, arith, take-suc-set}
-use Rattle.std.proofs.lemmas.List.{append_assoc, append-nil, length-set, length-take, length-append, take-take, take-append-le, drop-append-le, take-append-drop}
+use Rattle.std.proofs.Common.{◌≡◌, ℕ, zero, suc, ◌+◌, ◌≤◌, Bool, List, [], ◌∷◌, ◌++◌, length, take, drop, set, sym, refl, ap, ◌∙◌, arith, take-suc-set}
+use Rattle.std.proofs.lemmas.List.{append_assoc, append-nil, length-set, length-take, take-take, drop-append-le, take-append-drop}
 use Rattle.cdf.specs.Lists.{Each}
 use Rattle.model.specs.Runs.{Lane, Taken, back_to, in_use, logged, unwound}
 

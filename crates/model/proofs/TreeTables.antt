@@ -1,7 +1,5 @@
 -- Every table that a tree may name is one of the layout.
-use Rattle.std.proofs.Common.{◌≡◌, ℕ, zero, suc, ◌+◌, ◌-◌, ◌*◌, ◌/◌, ◌%◌, ◌^◌, ◌<◌, ◌≤◌, min, Bool, true, false, cond, not, ◌&&◌, ◌||◌, T, eqb, ltb, leb, List, [], ◌∷◌, ◌++◌, length, get_or, ℤ, pos, negsuc, sym, refl, ap, ◌∙◌, subst, ap₂, arith, leb→le}
-use mathlib.Core.Option.{Option, none, some}
-use native.Mathlib.Decide.{dec_lt, ℕ_discrete}
+use Rattle.std.proofs.Common.{◌≡◌, ℕ, zero, suc, ◌+◌, ◌*◌, ◌/◌, ◌%◌, ◌<◌, ◌≤◌, Bool, true, false, cond, not, ◌&&◌, ◌||◌, T, leb, get_or, ℤ, refl, subst, arith, leb→le}
 use mir.Val.{bool_byte}
 use Rattle.std.specs.declared.option.Option.TheVariants as maybe
 use Rattle.std.specs.declared.option.Option as std
@@ -10,7 +8,6 @@ use Rattle.av1.specs.declared.size.BlockSize.{BlockSize}
 use Rattle.av1.specs.declared.size.BlockSize.TheVariants.{BLOCK_4X4, BLOCK_4X8, BLOCK_8X4, BLOCK_8X8, BLOCK_8X16, BLOCK_16X8, BLOCK_16X16, BLOCK_16X32, BLOCK_32X16, BLOCK_32X32, BLOCK_32X64, BLOCK_64X32, BLOCK_64X64, BLOCK_64X128, BLOCK_128X64, BLOCK_128X128, BLOCK_4X16, BLOCK_16X4, BLOCK_8X32, BLOCK_32X8, BLOCK_16X64, BLOCK_64X16}
 use Rattle.av1.specs.declared.mv.MvSubpelPrecision.{MvSubpelPrecision}
 use Rattle.av1.specs.declared.mv.MvSubpelPrecision.TheVariants as at
-use Rattle.model.specs.declared.Question.{Question}
 use Rattle.model.specs.declared.Question.TheVariants as of
 use Rattle.av1.specs.declared.refusal.Refusal.TheVariants as no
 use Rattle.av1.specs.Segments.{deinterleaved, same, negative, prev, segment_context}
@@ -18,13 +15,13 @@ use Rattle.av1.specs.Tiles.{flag_of}
 use Rattle.av1.specs.Sizes.{level, splits}
 use Rattle.av1.specs.Vectors.{class_base, signed}
 use Rattle.cdf.proofs.Ranges.{true_below}
-use Rattle.cdf.specs.Layout.{row_base, col_base, table_sizes, in_layout, large_tables, small_tables, tables}
+use Rattle.cdf.specs.Layout.{row_base, col_base, table_sizes, in_layout}
 use Rattle.cdf.specs.Words.{Table, table}
 use Rattle.model.proofs.Standing.{or_else_first, unless_true}
 use Rattle.model.specs.Alphas.{alpha_tree, alphas_tree}
 use Rattle.model.specs.Coders.{edge, whole}
 use Rattle.model.specs.Decisions.{left_place, longest, State, TablesIn, TreesInLayout, above_left_of, above_of, bit, context, has_columns, has_rows, left_of, partition_table, partition_tree, prediction, segment_number, segment_tree, skip_context, table_at}
-use Rattle.model.specs.Tree.{Syntax, and_then, coded, done, never, one, read_by}
+use Rattle.model.specs.Tree.{Syntax, and_then, coded, done, never, read_by}
 use Rattle.model.specs.Vector.{bits_tree, component_if, component_tree, fraction_tree, has_col, has_row, high_tree, integer_tree, vector_tree}
 
 abbrev pub At : ℕ → ℕ → Type 0

@@ -6,7 +6,6 @@ use Rattle.av1.specs.declared.mv.MvSubpelPrecision.TheVariants as at
 use Rattle.av1.specs.Vectors.{class_base, class_from, class_of, magnitude, nonzero, offset_of, signed}
 use Rattle.cdf.proofs.Booleans.{and_first, and_second}
 use Rattle.model.proofs.Trees.{leads_by, leads_then}
-use Rattle.model.specs.Coders.{whole}
 use Rattle.model.specs.Tree.{Leads, and_then, read_by}
 use Rattle.model.specs.Vector.{ComponentLeads, Fits, bits_of, bits_tree, class_width, component_if, component_path, component_tree, fits_precision, fraction_path, fraction_tree, has_col, has_row, high_path, high_tree, in_range, integer_path, integer_tree, path_if, present, step_of, vector_path, vector_tree}
 

@@ -1,5 +1,5 @@
 -- A call by its single steps, and the public calls as functions of the world.
-use Rattle.std.specs.Prelude.{◌≡◌, ℕ, zero, suc, ◌+◌, ◌<◌, ◌≤◌, Bool, true, false, cond, not, List, [], ◌∷◌, ◌++◌, length, Ok, Err, Result, nat_le}
+use Rattle.std.specs.Prelude.{◌≡◌, ℕ, suc, Bool, true, not, List, [], ◌∷◌, ◌++◌, length, Ok, Err, Result, nat_le}
 use Rattle.std.proofs.Math.Option.{Option, none, some}
 use Rattle.cdf.specs.declared.entry.Entry.{Entry}
 use Rattle.journal.specs.declared.Window.{Window}
@@ -12,7 +12,7 @@ use Rattle.cdf.specs.Words.{Words}
 use Rattle.model.specs.Coders.{Coder, whole, edge, entry_of, after}
 use Rattle.model.specs.Tree.{Syntax, done, never, coded, and_then, Leads, written}
 use Rattle.journal.specs.declared.Mark.{Mark}
-use Rattle.model.specs.Runs.{Lane, logged, ask, open_trial, take_back, keep, World, Core, Asking, sent, refusal, answered, done_call, step}
+use Rattle.model.specs.Runs.{Lane, logged, ask, open_trial, take_back, keep, World, sent, refusal, done_call, step}
 use Rattle.model.specs.Decisions.{State, Decision, stage, with_words, window_at, add_if, put_spot, old_spot, tree, path, decided, spots}
 
 -- what is logged while a trial is open

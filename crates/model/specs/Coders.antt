@@ -1,5 +1,5 @@
 -- What codes a symbol: a table, which adapts, or an edge, whose two symbols are summed from a table that does not adapt.
-use Rattle.std.specs.Prelude.{ℕ, ◌+◌, ◌-◌, Bool, cond, ◌&&◌, List, [], ◌∷◌, ◌==◌, nat_lt}
+use Rattle.std.specs.Prelude.{ℕ, Bool, ◌&&◌, List, [], ◌∷◌, ◌==◌, nat_lt}
 use Rattle.cdf.specs.declared.entry.Entry.{Entry}
 use Rattle.cdf.specs.Words.{Words, Table, words_of, fl_at, fh_at, entry_at, updated, widths}
 

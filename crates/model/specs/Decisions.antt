@@ -1,8 +1,7 @@
 -- The state of a tile, and what each decision means in it: its questions, its syntax, what it sets and what it logs.
-use Rattle.std.specs.Prelude.{◌≡◌, ℕ, zero, suc, ◌+◌, ◌-◌, ◌*◌, ◌/◌, ◌%◌, ◌^◌, ◌<◌, ◌≤◌, min, Bool, true, false, cond, not, ◌&&◌, ◌||◌, T, List, [], ◌∷◌, ◌++◌, map, length, set, ℤ, pos, negsuc, ◌==◌, nat_le, nat_lt, slice_index, slice_index_or, slice_set}
+use Rattle.std.specs.Prelude.{◌≡◌, ℕ, zero, suc, ◌+◌, ◌*◌, ◌/◌, ◌%◌, ◌^◌, ◌<◌, ◌≤◌, min, Bool, true, false, cond, not, ◌&&◌, ◌||◌, T, List, [], ◌∷◌, ◌++◌, map, length, ℤ, ◌==◌, nat_le, nat_lt, slice_index, slice_index_or, slice_set}
 use Rattle.std.proofs.Math.Option.{Option, none, some}
 use mir.Val.{bool_byte}
-use Rattle.std.specs.declared.option.Option.TheVariants as maybe
 use Rattle.std.specs.declared.option.Option as std
 use Rattle.av1.specs.declared.tile.Block.{Block}
 use Rattle.av1.specs.declared.tile.Cell.{Cell}
@@ -17,15 +16,15 @@ use Rattle.av1.specs.declared.refusal.Refusal.TheVariants as no
 use Rattle.av1.specs.Alphas.{alphas_allowed}
 use Rattle.av1.specs.Segments.{prev, natural, segment_context, segment_prediction, interleaved, deinterleaved}
 use Rattle.av1.specs.Sides.{side}
-use Rattle.av1.specs.Sizes.{width, height, width_mi, height_mi, above_byte, left_byte, level, splits, no_side_above, fits_in}
+use Rattle.av1.specs.Sizes.{width, height, above_byte, left_byte, level, splits, no_side_above, fits_in}
 use Rattle.av1.specs.Tiles as tile
 use Rattle.av1.specs.Tiles.{no_cell}
 use Rattle.cdf.specs.Layout.{SoundWords, in_layout}
 use Rattle.cdf.specs.Lists.{from}
 use Rattle.cdf.specs.Windows.{window, taken_window, put_window, small_place, large_place}
 use Rattle.cdf.specs.Words.{Words, Table, table}
-use Rattle.model.specs.Coders.{Coder, whole, edge, symbols, after}
-use Rattle.model.specs.Tree.{Syntax, done, never, coded, one, read_by, written}
+use Rattle.model.specs.Coders.{whole, edge, after}
+use Rattle.model.specs.Tree.{Syntax, done, never, coded, written}
 use Rattle.model.specs.Alphas.{alphas_tree, alphas_path}
 use Rattle.model.specs.Vector.{vector_tree, vector_path, in_range, fits_precision}
 use Rattle.model.specs.Subject.{Subject, Trail}

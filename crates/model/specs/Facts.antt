@@ -1,7 +1,6 @@
 -- Facts about the stage that code leans on, and relations in the standard's words.
-use Rattle.std.specs.Prelude.{◌≡◌, ℕ, zero, suc, ◌+◌, ◌-◌, ◌*◌, ◌/◌, ◌%◌, ◌^◌, ◌<◌, ◌≤◌, Bool, true, false, cond, ◌&&◌, T, List, [], ◌∷◌, ◌++◌, map, length, take, replicate, ℤ, pos, negsuc, ◌==◌, nat_le, nat_lt, slice_index, slice_index_or}
-use Rattle.std.proofs.Math.Option.{Option, none, some}
-use Rattle.std.proofs.lemmas.List.Edits.{sets}
+use Rattle.std.specs.Prelude.{◌≡◌, ℕ, ◌+◌, ◌-◌, ◌*◌, ◌/◌, ◌%◌, ◌^◌, ◌<◌, Bool, true, false, cond, ◌&&◌, T, List, [], ◌∷◌, map, length, take, replicate, ℤ, pos, negsuc, ◌==◌, nat_le, nat_lt, slice_index, slice_index_or}
+use Rattle.std.proofs.Math.Option.{none}
 use Rattle.cdf.specs.declared.entry.Entry.{Entry}
 use Rattle.av1.specs.declared.size.BlockSize.{BlockSize}
 use Rattle.av1.specs.declared.tile.Cell.{Cell}
@@ -20,9 +19,9 @@ use Rattle.av1.specs.Tiles.{no_cell}
 use Rattle.cdf.specs.Lists.{Each}
 use Rattle.cdf.specs.Words.{Words}
 use Rattle.model.specs.Alphas.{alphas_path}
-use Rattle.model.specs.Tree.{Leads, read, read_as, faulty, Fault}
+use Rattle.model.specs.Tree.{Leads, read, read_as}
 use Rattle.model.specs.Vector.{has_row, has_col, path_if, vector_path}
-use Rattle.model.specs.Runs.{Stood, Book, Ran, Lent, run, fresh, empty_book, ask, open_trial, take_back, keep, asked, sent, settle, read_asked, reads, stopped, fault}
+use Rattle.model.specs.Runs.{Ran, run, fresh, empty_book, ask, open_trial, take_back, keep, asked, sent, settle, read_asked, reads, stopped, fault}
 use Rattle.model.specs.Decisions.{State, Sound, Decision, stage, in_tile, settled, units, above_length, left_length, bit, tree, path, decided, spots, placed, allowed}
 use Rattle.model.specs.Worked.{start}
 

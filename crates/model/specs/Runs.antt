@@ -1,5 +1,5 @@
 -- A stage with trials, the book of standing calls and a reader, over any subject; and the laws over whole runs.
-use Rattle.std.specs.Prelude.{◌≡◌, ℕ, zero, suc, ◌+◌, ◌<◌, ◌≤◌, Bool, true, false, cond, not, ◌&&◌, ◌||◌, ◌≢◌, List, [], ◌∷◌, ◌++◌, map, length, take, drop, ◌==◌, nat_le, nat_lt, slice_index, slice_set}
+use Rattle.std.specs.Prelude.{◌≡◌, ℕ, suc, ◌+◌, ◌<◌, ◌≤◌, Bool, true, false, ◌&&◌, ◌≢◌, List, [], ◌∷◌, ◌++◌, map, length, take, drop, ◌==◌, nat_le, nat_lt, slice_index, slice_set}
 use Rattle.std.proofs.Math.Option.{Option, none, some}
 use Rattle.cdf.specs.declared.entry.Entry.{Entry}
 use Rattle.journal.specs.declared.Mark.{Mark}
@@ -7,7 +7,7 @@ use Rattle.av1.specs.declared.refusal.Refusal.{Refusal}
 use Rattle.av1.specs.declared.refusal.Refusal.TheVariants as no
 use Rattle.cdf.specs.Lists.{Each}
 use Rattle.cdf.specs.Words.{Words}
-use Rattle.model.specs.Tree.{Syntax, Leads, written, Written, read, Answer, read_as, faulty, Fault}
+use Rattle.model.specs.Tree.{Leads, written, Written, read, read_as, faulty, Fault}
 use Rattle.model.specs.Subject.{Subject, Trail}
 
 -- a lane of lent memory, and how many of its records are in use

@@ -1,9 +1,9 @@
 -- What a subject of decisions gives: its state, its questions, its syntax, and its undo records.
-use Rattle.std.specs.Prelude.{◌≡◌, ℕ, Bool, List, [], ◌∷◌, ◌++◌}
-use Rattle.std.proofs.Math.Option.{Option, none, some}
+use Rattle.std.specs.Prelude.{ℕ, Bool, List}
+use Rattle.std.proofs.Math.Option.{Option}
 use Rattle.av1.specs.declared.refusal.Refusal.{Refusal}
 use Rattle.cdf.specs.Words.{Words}
-use Rattle.model.specs.Tree.{Syntax, Leads, written}
+use Rattle.model.specs.Tree.{Syntax}
 
 -- undo records of the three lanes, oldest first
 pub record Trail (A B C : Type 0) : Type 0 where

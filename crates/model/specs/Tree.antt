@@ -1,6 +1,6 @@
 -- A decision's syntax, as the standard's decoding process has it: a tree of symbols. What is written for a path through
 -- the tree, and what is read along it.
-use Rattle.std.specs.Prelude.{◌≡◌, ℕ, zero, suc, ◌+◌, ◌-◌, ◌<◌, Bool, true, false, ◌≢◌, List, [], ◌∷◌, ◌++◌, length, slice_index}
+use Rattle.std.specs.Prelude.{◌≡◌, ℕ, suc, ◌+◌, ◌-◌, ◌<◌, true, false, ◌≢◌, List, [], ◌∷◌, ◌++◌, length, slice_index}
 use Rattle.cdf.specs.declared.entry.Entry.{Entry}
 use Rattle.av1.specs.declared.refusal.Refusal.{Refusal}
 use Rattle.av1.specs.declared.refusal.Refusal.TheVariants as no

@@ -1,8 +1,7 @@
 -- The start of a tile, and worked examples on the definitions.
-use Rattle.std.specs.Prelude.{◌≡◌, ℕ, zero, suc, ◌+◌, ◌-◌, ◌*◌, ◌/◌, List, [], ◌∷◌, ◌++◌, map, length, replicate, ℤ, pos, negsuc}
-use Rattle.cdf.specs.declared.entry.Entry.{Entry}
+use Rattle.std.specs.Prelude.{◌≡◌, ℕ, ◌+◌, ◌*◌, List, [], ◌∷◌, map, replicate, pos, negsuc}
 use Rattle.model.specs.declared.Question.TheVariants as of
-use Rattle.std.proofs.Math.Option.{Option, none, some}
+use Rattle.std.proofs.Math.Option.{none}
 use Rattle.av1.specs.declared.size.BlockSize.TheVariants.{BLOCK_64X64}
 use Rattle.av1.specs.declared.mv.MvSubpelPrecision.TheVariants as at
 use Rattle.av1.specs.Segments.{interleaved}

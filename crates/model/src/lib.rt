@@ -47,18 +47,18 @@ pub enum Question {
 
 /// Different decisions of one question have symbols that differ, whatever the question's syntax.
 pub fn decisions_told_apart() -> u8
-    ensures tells_apart { TellsApart ℕ }
-    ensures tells_apart_2 { TellsApart Bool }
-    ensures tells_apart_3 { TellsApart (ℤ × ℤ) }
+    ensures numbers { TellsApart ℕ }
+    ensures flags { TellsApart Bool }
+    ensures pairs { TellsApart (ℤ × ℤ) }
 {
     0
 }
 
 /// What is written for a decision is read as that decision, whatever the question's syntax.
 pub fn decisions_read_back() -> u8
-    ensures reads_back { ReadsBack ℕ }
-    ensures reads_back_2 { ReadsBack Bool }
-    ensures reads_back_3 { ReadsBack (ℤ × ℤ) }
+    ensures numbers { ReadsBack ℕ }
+    ensures flags { ReadsBack Bool }
+    ensures pairs { ReadsBack (ℤ × ℤ) }
 {
     0
 }

@@ -3,4 +3,4 @@ use Rattle.model.proofs.Facts.{short_runs}
 use Rattle.model.proofs.worked_examples.Goals as goal
 
 pub returns : goal.returns
-returns c = (works, starts_sound, short_runs)
+returns c = record { worked = works; starts_sound = starts_sound; short_run = short_runs }
