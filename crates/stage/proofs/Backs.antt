@@ -1,5 +1,5 @@
 -- Taking back in the stage is the model's: the walks over the lanes, and the world after them.
-use Rattle.std.proofs.Common.{◌≡◌, ℕ, zero, suc, ◌+◌, ◌-◌, ◌*◌, ◌<◌, ◌≤◌, Bool, true, false, cond, not, ◌&&◌, ◌||◌, eqb, ltb, leb, List, [], ◌∷◌, length, get_or, take, drop, set, Ok, Err, Result, sym, refl, ap, ◌∙◌, ap₂, arith}
+use Rattle.std.proofs.Common.{◌≡◌, ℕ, zero, suc, ◌-◌, ◌<◌, Bool, true, false, cond, not, ◌&&◌, ◌||◌, eqb, ltb, leb, List, [], ◌∷◌, length, get_or, take, set, Ok, Err, sym, refl, ap, ◌∙◌, ap₂, arith}
 use mathlib.Core.Option.{Option, none, some}
 use Rattle.std.proofs.lemmas.List.{length-set}
 use Rattle.std.proofs.lemmas.Bool.{ne_eqb}
@@ -8,7 +8,6 @@ use Rattle.av1.specs.declared.refusal.Refusal.TheVariants as no
 use Rattle.av1.specs.declared.tile.Cell.{Cell}
 use Rattle.cdf.specs.declared.entry.Entry.{Entry}
 use Rattle.cdf.specs.declared.tables.Tables.{Tables}
-use Rattle.cdf.specs.Words.{Words}
 use Rattle.journal.specs.declared.Mark.{Mark}
 use Rattle.journal.specs.declared.Spot.{Spot}
 use Rattle.journal.specs.declared.Spot.TheVariants as spot
@@ -16,9 +15,9 @@ use Rattle.journal.specs.declared.Window.{Window}
 use Rattle.journal.specs.Spots.{Area, area, put_area, put_below}
 use Rattle.journal.specs.Walks.{undone, visited}
 use Rattle.journal.specs.Windows.{put_tables}
-use Rattle.model.specs.Calls.{answer_by, back_step}
+use Rattle.model.specs.Calls.{back_step}
 use Rattle.model.specs.Decisions.{State, stage, units, with_words, put_back, put_spot}
-use Rattle.model.specs.Runs.{World, Lent, take_back, refusal, answered, or_else, unless, unwound, innermost, fewer_asked, at_mark}
+use Rattle.model.specs.Runs.{World, Lent, take_back, refusal, or_else, unless, unwound, innermost, fewer_asked, at_mark}
 use Rattle.stage.specs.declared.state.Journal.{Journal}
 use Rattle.stage.specs.Questions.{back_asked, innermost_mark}
 use Rattle.stage.specs.View.{lane, marks_of, no_mark, world_at, refused_by}

@@ -1,5 +1,5 @@
 -- The questions of a call and its outcome, as the model has them.
-use Rattle.std.proofs.Common.{◌≡◌, ℕ, zero, suc, ◌+◌, ◌*◌, ◌<◌, ◌≤◌, Bool, true, false, cond, ◌&&◌, T, ltb, leb, List, [], ◌∷◌, ◌++◌, map, length, Ok, Err, Result, sym, refl, ap, ◌∙◌, subst, ap₂, suc-mul, arith, le→leb, lt→ltb}
+use Rattle.std.proofs.Common.{◌≡◌, ℕ, zero, suc, ◌+◌, ◌*◌, Bool, true, false, cond, ◌&&◌, ltb, leb, List, [], ◌∷◌, map, length, Ok, Err, Result, sym, refl, ap, ◌∙◌, ap₂, suc-mul, arith, le→leb, lt→ltb}
 use mathlib.Core.Option.{Option, none, some}
 use Rattle.std.proofs.lemmas.List.{length-append, length-map}
 use Rattle.av1.specs.declared.refusal.Refusal.{Refusal}
@@ -11,9 +11,7 @@ use Rattle.av1.specs.Tiles.{block_at, block_asked}
 use Rattle.av1.specs.Tiles as tile
 use Rattle.cdf.specs.declared.entry.Entry.{Entry}
 use Rattle.cdf.specs.Lists.{from}
-use Rattle.cdf.specs.Words.{Words}
 use Rattle.cdf.proofs.Booleans.{T→true}
-use Rattle.journal.specs.declared.Mark.{Mark}
 use Rattle.journal.specs.declared.Spot.{Spot}
 use Rattle.model.specs.declared.Question.{Question}
 use Rattle.model.specs.declared.Question.TheVariants as question
@@ -23,7 +21,7 @@ use Rattle.model.specs.Runs.{World, Lent, ask, refusal, answered, done_call, sen
 use Rattle.model.specs.Tree.{written}
 use Rattle.model.proofs.Stepping.{by_steps}
 use Rattle.stage.specs.declared.state.Journal.{Journal}
-use Rattle.stage.specs.Questions.{Need, need, lanes_fit, record_asked, area}
+use Rattle.stage.specs.Questions.{need, lanes_fit, record_asked, area}
 use Rattle.stage.specs.View.{marks_of, world_at, refused_by}
 
 module _ (memory : ℕ) (room : List Entry → ℕ) where

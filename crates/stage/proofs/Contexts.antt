@@ -1,6 +1,6 @@
 -- The partition contexts, set byte by byte, and what that is in the model.
-use Rattle.std.proofs.Common.{◌≡◌, ℕ, zero, suc, ◌+◌, ◌/◌, ◌%◌, ◌<◌, ◌≤◌, Bool, true, false, cond, ◌&&◌, T, eqb, ltb, leb, List, [], ◌∷◌, ◌++◌, map, length, get_or, set, replicate, Ok, Err, Result, sym, refl, ap, ◌∙◌, ap₂, arith, eqb→eq, ltb→lt, lt→ltb}
-use mathlib.Core.Option.{Option, none, some}
+use Rattle.std.proofs.Common.{◌≡◌, ℕ, zero, suc, ◌+◌, ◌/◌, ◌%◌, ◌<◌, ◌≤◌, Bool, true, false, cond, ◌&&◌, T, eqb, ltb, List, [], ◌∷◌, ◌++◌, map, length, get_or, set, replicate, Ok, Err, sym, refl, ap, ◌∙◌, ap₂, arith, eqb→eq, ltb→lt, lt→ltb}
+use mathlib.Core.Option.{none, some}
 use Rattle.std.proofs.lemmas.List.{length-append, length-map}
 use Rattle.std.proofs.lemmas.Bool.{le-leb}
 use Rattle.av1.specs.declared.refusal.Refusal.{Refusal}
@@ -11,7 +11,6 @@ use Rattle.av1.specs.Tiles as tile
 use Rattle.cdf.specs.declared.entry.Entry.{Entry}
 use Rattle.cdf.specs.Lists.{from}
 use Rattle.cdf.proofs.Booleans.{T→true, true→T, and_first, and_second}
-use Rattle.journal.specs.declared.Mark.{Mark}
 use Rattle.journal.specs.declared.Spot.{Spot}
 use Rattle.model.specs.declared.Question.TheVariants as question
 use Rattle.model.specs.Calls.{log_if, row_step, update_step, spot_step, spot_steps}

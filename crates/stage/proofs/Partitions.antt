@@ -1,8 +1,8 @@
 -- A partition of the stage is the model's.
-use Rattle.std.proofs.Common.{◌≡◌, ℕ, zero, suc, ◌+◌, ◌-◌, ◌*◌, ◌<◌, ◌≤◌, Bool, true, false, cond, not, ◌&&◌, T, eqb, ltb, leb, List, [], ◌∷◌, ◌++◌, length, Some, None, Ok, Err, Result, sym, refl, ap, ◌∙◌, subst, ap₂, arith}
-use mathlib.Core.Option.{Option, none, some}
+use Rattle.std.proofs.Common.{◌≡◌, ℕ, zero, suc, ◌+◌, ◌-◌, ◌*◌, ◌<◌, Bool, true, false, cond, not, ◌&&◌, eqb, leb, List, [], ◌∷◌, ◌++◌, length, Some, None, Ok, Err, Result, sym, refl, ap, ◌∙◌, ap₂, arith}
+use mathlib.Core.Option.{Option}
 use mir.Val.{bool_byte}
-use Rattle.std.proofs.lemmas.Bool.{lt-ltb, le-leb, lt-leb}
+use Rattle.std.proofs.lemmas.Bool.{lt-ltb}
 use Rattle.av1.specs.declared.refusal.Refusal.{Refusal}
 use Rattle.av1.specs.declared.refusal.Refusal.TheVariants as no
 use Rattle.av1.specs.declared.size.BlockSize.{BlockSize}
@@ -18,9 +18,8 @@ use Rattle.model.specs.declared.Question.TheVariants as question
 use Rattle.model.specs.Calls.{decision_step, symbol_step, symbol_steps}
 use Rattle.model.specs.Coders.{edge, entry_of}
 use Rattle.model.specs.Decisions.{State, stage, add_if, window_at, has_columns, has_rows, large_of, partition_allowed, partition_path, partition_table, partition_tree, small_of, table_at}
-use Rattle.model.specs.Runs.{World, Lent, Lane, ask, refusal, or_else, unless}
+use Rattle.model.specs.Runs.{World, Lent, ask, refusal, or_else, unless}
 use Rattle.model.specs.Tree.{written}
-use Rattle.model.proofs.TreeTables.{split_in_layout, partition_in_layout}
 use Rattle.stage.specs.declared.state.Journal.{Journal}
 use Rattle.stage.specs.Partitions.{context_at, entries_at, small_at, large_at}
 use Rattle.stage.specs.Questions.{need, record_asked}

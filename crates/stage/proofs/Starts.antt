@@ -1,11 +1,10 @@
 -- What a start refuses, and the world that it makes.
-use Rattle.std.proofs.Common.{◌≡◌, ℕ, zero, suc, ◌*◌, ◌≤◌, Bool, true, false, cond, ◌&&◌, leb, List, [], ◌∷◌, ◌++◌, length, take, drop, replicate, Ok, Err, Result, sym, refl, ap, ◌∙◌, ap₂}
-use mathlib.Core.Option.{Option, none, some}
+use Rattle.std.proofs.Common.{◌≡◌, ℕ, ◌*◌, Bool, true, false, cond, ◌&&◌, leb, List, [], take, drop, replicate, Ok, Err, Result, ap, ◌∙◌, ap₂}
+use mathlib.Core.Option.{Option, some}
 use Rattle.std.proofs.lemmas.List.{length-replicate, take_at}
 use Rattle.av1.specs.declared.refusal.Refusal.{Refusal}
 use Rattle.av1.specs.declared.refusal.Refusal.TheVariants as no
 use Rattle.av1.specs.declared.tile.Cell.{Cell}
-use Rattle.av1.specs.Refusals.{verdict}
 use Rattle.av1.specs.Sides.{side}
 use Rattle.av1.specs.Tiles.{no_cell, sides_asked}
 use Rattle.cdf.specs.Start.{start_words}

@@ -1,5 +1,5 @@
 -- A symbol in the stage: its window is logged, its entry joins the record, and its table adapts.
-use Rattle.std.proofs.Common.{◌≡◌, ℕ, zero, suc, ◌+◌, ◌<◌, ◌≤◌, Bool, true, false, cond, not, ◌&&◌, T, ltb, leb, List, [], ◌∷◌, ◌++◌, length, get_or, take, drop, set, replicate, Some, None, sym, refl, ap, ◌∙◌, subst, ap₂, arith, le→leb, lt→ltb, leb→le}
+use Rattle.std.proofs.Common.{◌≡◌, ℕ, zero, suc, ◌+◌, ◌<◌, ◌≤◌, Bool, true, false, cond, not, ◌&&◌, ltb, leb, List, [], ◌∷◌, ◌++◌, length, get_or, take, drop, set, replicate, Some, None, sym, refl, ap, ◌∙◌, ap₂, arith, le→leb, lt→ltb, leb→le}
 use Rattle.std.proofs.lemmas.List.{length-drop, get_or-drop, take_more, take_more_set}
 use Rattle.cdf.specs.declared.entry.Entry.{Entry}
 use Rattle.cdf.specs.Entries.{is_entry, entry_if}
@@ -8,7 +8,6 @@ use Rattle.cdf.specs.Words.{Words, Table, table, updated}
 use Rattle.cdf.proofs.Booleans.{true→T, T→true, not-T→false}
 use Rattle.cdf.proofs.Regions.{PlaceOf, table_place, inside_small, inside_large}
 use Rattle.journal.specs.declared.Mark.{Mark}
-use Rattle.journal.specs.declared.Window.{Window}
 use Rattle.model.specs.Calls.{log_if, small_log, large_log, symbol_step}
 use Rattle.model.specs.Coders.{whole, entry_of}
 use Rattle.model.specs.Decisions.{State, stage, window_at, add_if, with_words}

@@ -1,6 +1,6 @@
 -- A vector decision of the stage is the model's.
 use Rattle.std.proofs.Common.{◌≡◌, ℕ, zero, suc, ◌+◌, ◌*◌, ◌/◌, ◌%◌, ◌<◌, ◌≤◌, Bool, true, false, not, ◌&&◌, T, eqb, leb, List, [], ◌∷◌, ◌++◌, length, ℤ, pos, negsuc, Ok, Err, sym, refl, ap, ◌∙◌, subst, ap₂, subst₂, arith, le→leb, eqb→eq, leb→le}
-use mathlib.Core.Option.{Option, some}
+use mathlib.Core.Option.{Option}
 use lib.Dec.{eqb-suc-zero}
 use mir.Val.{bool_byte}
 use Rattle.std.proofs.lemmas.List.{length-map}
@@ -13,7 +13,7 @@ use Rattle.cdf.specs.declared.entry.Entry.{Entry}
 use Rattle.cdf.proofs.Booleans.{T→true, and_both}
 use Rattle.model.specs.declared.Question.TheVariants as question
 use Rattle.model.specs.Calls.{decision_step, symbol_steps}
-use Rattle.model.specs.Decisions.{State, stage, allowed}
+use Rattle.model.specs.Decisions.{State, stage}
 use Rattle.model.specs.Runs.{World, Lent, ask, refusal, or_else, unless, open_questions, sent}
 use Rattle.model.specs.Tree.{Leads, Syntax, and_then, one, read_by}
 use Rattle.model.specs.Vector.{Fits, class_width, component_if, component_path, component_tree, fits_precision, fraction_path, fraction_tree, has_col, has_row, high_path, high_tree, in_range, integer_path, integer_tree, path_if, present, step_of, vector_path, vector_tree}

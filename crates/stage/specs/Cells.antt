@@ -1,5 +1,5 @@
 -- The cells of a block set one by one, each logged while a trial is open.
-use Rattle.std.specs.Prelude.{◌≡◌, ℕ, ◌+◌, ◌*◌, ◌<◌, Bool, cond, List, [], ◌∷◌, set, slice_index_or, slice_set}
+use Rattle.std.specs.Prelude.{◌≡◌, ℕ, ◌+◌, ◌*◌, ◌<◌, Bool, cond, List, [], ◌∷◌, slice_index_or, slice_set}
 use Rattle.av1.specs.declared.size.BlockSize.{BlockSize}
 use Rattle.av1.specs.declared.tile.Cell.{Cell}
 use Rattle.av1.specs.declared.tile.Tile.{Tile}

@@ -1,5 +1,5 @@
 -- The partition contexts set byte by byte, each logged while a trial is open.
-use Rattle.std.specs.Prelude.{ℕ, List, [], ◌∷◌, set, slice_index, slice_set}
+use Rattle.std.specs.Prelude.{ℕ, List, [], ◌∷◌, slice_index, slice_set}
 use Rattle.journal.specs.declared.Mark.{Mark}
 use Rattle.journal.specs.declared.Spot.{Spot}
 use Rattle.journal.specs.declared.Spot.TheVariants as spot

@@ -1,5 +1,5 @@
 -- What the lanes keep while records are logged: they are the same memory, and as long as before.
-use Rattle.std.specs.Prelude.{◌≡◌, List, length}
+use Rattle.std.specs.Prelude.{◌≡◌, length}
 use Rattle.journal.specs.declared.Log.{Log}
 
 pub record SameMemory (l m : Log) : Type 0 where

@@ -1,4 +1,4 @@
-use Rattle.std.proofs.Common.{◌≡◌, ◌<◌, [], ◌∷◌, sym, refl, ap, ◌∙◌, arith, rules}
+use Rattle.std.proofs.Common.{◌<◌, [], ◌∷◌, refl, ap, ◌∙◌, arith, rules}
 use Rattle.journal.specs.declared.Spot.{Spot}
 use Rattle.model.specs.Runs.{Lane}
 use Rattle.stage.specs.View.{lane}

@@ -1,6 +1,5 @@
-use Rattle.std.proofs.Common.{◌≡◌, ℕ, ◌<◌, ◌≤◌, List, [], ◌∷◌, sym, refl, ap, ◌∙◌, arith, rules}
+use Rattle.std.proofs.Common.{ℕ, ◌<◌, ◌≤◌, List, [], ◌∷◌, sym, refl, ap, ◌∙◌, arith, rules}
 use Rattle.cdf.specs.Words.{table}
-use Rattle.journal.specs.declared.Mark.{Mark}
 use Rattle.journal.specs.declared.Window.{Window}
 use Rattle.model.specs.Calls.{log_if, small_log, large_log}
 use Rattle.model.specs.Coders.{whole}

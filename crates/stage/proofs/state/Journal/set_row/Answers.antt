@@ -1,4 +1,4 @@
-use Rattle.std.proofs.Common.{◌≡◌, ℕ, ◌<◌, ap, ◌∙◌, ap₂, arith, rules}
+use Rattle.std.proofs.Common.{◌<◌, ap, ◌∙◌, ap₂, arith, rules}
 use Rattle.stage.specs.Cells.{change_one}
 use Rattle.stage.specs.View.{marks_of}
 use Rattle.stage.proofs.Places.{next_turn}

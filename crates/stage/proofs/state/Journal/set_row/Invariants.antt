@@ -1,4 +1,4 @@
-use Rattle.std.proofs.Common.{◌≡◌, ◌+◌, ◌-◌, ◌<◌, ◌≤◌, length}
+use Rattle.std.proofs.Common.{◌≡◌, ◌+◌, ◌-◌, ◌≤◌}
 use Rattle.cdf.specs.Lists.{from}
 use Rattle.stage.specs.Cells.{logged_cells, change_each}
 use Rattle.stage.specs.View.{marks_of}

@@ -1,4 +1,4 @@
-use Rattle.std.proofs.Common.{◌≡◌, ◌<◌, true, length, refl, arith, rules}
+use Rattle.std.proofs.Common.{◌≡◌, ◌<◌, true, length, refl, rules}
 use Rattle.std.proofs.lemmas.Bool.{both_ways}
 use Rattle.stage.specs.View.{state_of}
 use Rattle.stage.proofs.Contexts.{row_refused, row_started}

@@ -1,4 +1,4 @@
-use Rattle.std.proofs.Common.{◌≡◌, ℕ, ◌+◌, ◌/◌, ◌%◌, ◌<◌, ◌≤◌, true, false, length, sym, refl, ap, ◌∙◌, ap₂, arith, rules}
+use Rattle.std.proofs.Common.{◌≡◌, ℕ, ◌+◌, ◌/◌, ◌%◌, true, false, length, refl, ap, ◌∙◌, ap₂, arith, rules}
 use Rattle.std.proofs.lemmas.Bool.{both_ways}
 use Rattle.std.proofs.lemmas.Result.{err_from_is_err_and}
 use Rattle.av1.specs.Sizes.{width, height, fits_in}
@@ -75,25 +75,18 @@ pub invariant_of-self : goal.invariant_of-self
 invariant_of-self c =
     let s = c.args.self.now in
     let one = c.set_bytes.ensures in
-    let two = c.set_bytes-2.ensures in (
-      s.ends,
-      (
-        omega (arith, one.kept.0, two.kept.0, s.few),
-        (
-          c.set_bytes.auto.bytes ∙ s.over,
-          (
-            c.set_bytes-2.auto.bytes ∙ s.beside,
-            (
-              still_unused side.Left c.context_bytes-above.result.1 (from ((c.args.y % 16) / 2) (c.height_mi-height.result / 2)) c.set_bytes.new.self c.set_bytes-2.new.self
-                  s.contexts.left c.set_bytes-2.new.bytes c.set_bytes.new.spots c.set_bytes-2.new.spots two.kept two.bytes
-                  (still_unused side.Above c.context_bytes-above.result.0 (from (c.args.x / 2) (c.width_mi-width.result / 2)) s.journal c.set_bytes.new.self
-                  s.contexts.above c.set_bytes.new.bytes c.args.log.now.spots.now c.set_bytes.new.spots one.kept one.bytes s.quiet),
-              tt,
-            ),
-          ),
-        ),
-      ),
-    )
+    let two = c.set_bytes-2.ensures in
+    record {
+      ends = s.ends;
+      few = omega (arith, one.kept.0, two.kept.0, s.few);
+      over = c.set_bytes.auto.bytes ∙ s.over;
+      beside = c.set_bytes-2.auto.bytes ∙ s.beside;
+      quiet =
+          still_unused side.Left c.context_bytes-above.result.1 (from ((c.args.y % 16) / 2) (c.height_mi-height.result / 2)) c.set_bytes.new.self c.set_bytes-2.new.self
+          s.contexts.left c.set_bytes-2.new.bytes c.set_bytes.new.spots c.set_bytes-2.new.spots two.kept two.bytes
+          (still_unused side.Above c.context_bytes-above.result.0 (from (c.args.x / 2) (c.width_mi-width.result / 2)) s.journal c.set_bytes.new.self
+          s.contexts.above c.set_bytes.new.bytes c.args.log.now.spots.now c.set_bytes.new.spots one.kept one.bytes s.quiet);
+    }
 
 pub returns : goal.returns
 returns c =

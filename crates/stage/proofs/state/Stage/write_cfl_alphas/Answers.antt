@@ -8,8 +8,8 @@ use Rattle.stage.specs.View.{lanes, state_of, world}
 use Rattle.stage.proofs.Alphas.{counted, refused_alphas, refused_record, accepted}
 use Rattle.stage.proofs.state.Stage.write_cfl_alphas.Goals as goal
 
-pub returns-in-default : goal.returns-in-default
-returns-in-default g c =
+pub returns-in_default : goal.returns-in_default
+returns-in_default g c =
     let k = g.S.Sink in
     let s = c.args.self.now in
     let refused : alphas_allowed (c.args.u, c.args.v) ≡ false = search rules in

@@ -13,8 +13,8 @@ use Rattle.stage.proofs.Vectors.{SplitAs, split_as}
 use Rattle.stage.proofs.VectorCalls.{Taken, taken, vector_small, vector_large, room_asked, vector_coded, refused_range, refused_precision, refused_record, accepted}
 use Rattle.stage.proofs.state.Stage.write_mv.Goals as goal
 
-pub returns-in-default : goal.returns-in-default
-returns-in-default g c =
+pub returns-in_default : goal.returns-in_default
+returns-in_default g c =
     let k = g.S.Sink in
     let s = c.args.self.now in
     let beyond : magnitude c.args.row ≤ 16384 → ⊥ = search rules in
@@ -27,8 +27,8 @@ returns-in-default g c =
       memory = search rules;
     }
 
-pub returns-in-default-split_component : goal.returns-in-default-split_component
-returns-in-default-split_component g c =
+pub returns-in_default-split_component : goal.returns-in_default-split_component
+returns-in_default-split_component g c =
     let k = g.S.Sink in
     let s = c.args.self.now in
     let beyond : magnitude c.args.col ≤ 16384 → ⊥ = search rules in

@@ -83,23 +83,16 @@ pub invariant_of-self : goal.invariant_of-self
 invariant_of-self g c =
     let s = c.code_segment-set.new.self in
     let b = c.in_ok-block.block in
-    let kept = c.set_block.ensures.kept in (
-      s.ends,
-      (
-        omega (arith, kept.0, s.few),
-        (
-          s.over,
-          (
-            s.beside,
-            (
-              still_quiet (change.Segment c.code_segment-set.result) (block_cells c.cols.result b.width b.from b.height) s.journal c.set_block.new.self
-                  (mid_of 0 (c.units.result - 0) c.args.map.now) c.set_block.new.cells c.code_segment-set.new.log.spots.now _ kept c.set_block.ensures.cells s.quiet,
-              tt,
-            ),
-          ),
-        ),
-      ),
-    )
+    let kept = c.set_block.ensures.kept in
+    record {
+      ends = s.ends;
+      few = omega (arith, kept.0, s.few);
+      over = s.over;
+      beside = s.beside;
+      quiet =
+          still_quiet (change.Segment c.code_segment-set.result) (block_cells c.cols.result b.width b.from b.height) s.journal c.set_block.new.self
+          (mid_of 0 (c.units.result - 0) c.args.map.now) c.set_block.new.cells c.code_segment-set.new.log.spots.now _ kept c.set_block.ensures.cells s.quiet;
+    }
 
 pub returns : goal.returns
 returns g c =

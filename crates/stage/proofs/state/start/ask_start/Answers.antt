@@ -1,4 +1,3 @@
-use Rattle.std.proofs.Common.{◌≡◌}
 use Rattle.std.proofs.lemmas.Result.{err_from_is_err_and}
 use Rattle.stage.proofs.Starts.{sides_refused}
 use Rattle.stage.proofs.state.start.ask_start.Goals as goal
