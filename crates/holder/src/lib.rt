@@ -7,7 +7,7 @@ ghost use Rattle.holder.specs.Held.{depth_held};
 ghost use Rattle.av1.specs.declared.tile.Cell.{Cell};
 ghost use Rattle.cdf.specs.declared.entry.Entry.{Entry};
 ghost use Rattle.model.specs.Calls.{back_step, keep_step};
-ghost use Rattle.model.specs.Decisions.{stage};
+ghost use Rattle.model.specs.Decisions.{stage as subject};
 ghost use Rattle.model.specs.Runs.{Lent};
 ghost use Rattle.stage.specs.View.{kept_of, lanes, world};
 
@@ -36,7 +36,7 @@ fn take_back<S: Sink>(
 // Keeps the trial that is held, and holds none from then on. A trial that is refused is handed back.
 fn keep(stage: &mut Stage, held: &mut Option<Trial>) -> Result<(), (Refusal, Trial)>
     requires { is_some held.old ≡ true }
-    ensures step { (memory : List Cell) (rooms : List Entry → ℕ) (l : Lent stage) (entries : List Entry) → (kept_of result, world stage.new memory l entries) ≡ keep_step (length memory) rooms (depth_held held.old) (world stage.old memory l entries) }
+    ensures step { (memory : List Cell) (rooms : List Entry → ℕ) (l : Lent subject) (entries : List Entry) → (kept_of result, world stage.new memory l entries) ≡ keep_step (length memory) rooms (depth_held held.old) (world stage.old memory l entries) }
     ensures handed { IfErr result (λ e. Some e.1 ≡ held.old) }
     ensures none { held.new ≡ None }
 {
