@@ -1,4 +1,4 @@
-use Rattle.std.proofs.Common.{◌≡◌, ℕ, ◌+◌, List, ◌++◌, vec_items, sym, ap, ◌∙◌, append-nil, rules}
+use Rattle.std.proofs.Common.{ℕ, ◌+◌, List, ◌++◌, vec_items, sym, ap, ◌∙◌, append-nil, rules}
 use Rattle.std.specs.Str.Iter.{lines_rest}
 use Rattle.std.proofs.lemmas.Result.{err_from_is_err_and}
 use Rattle.script.specs.declared.parse.Line.{Line}

@@ -1,4 +1,4 @@
-use Rattle.std.proofs.Common.{◌≡◌, ℕ, ◌-◌, ◌<◌, List, [], ◌∷◌, ◌++◌, length, take, drop, vec_items, ap, ◌∙◌, arith}
+use Rattle.std.proofs.Common.{ℕ, ◌-◌, ◌<◌, List, [], ◌∷◌, ◌++◌, length, take, drop, vec_items, ap, ◌∙◌, arith}
 use Rattle.script.specs.Splits.{texts}
 use Rattle.script.proofs.Splitting.{texts_more, flush_some}
 use Rattle.script.proofs.split.put.Goals as goal

@@ -1,7 +1,7 @@
 use Rattle.std.proofs.Common.{◌≡◌, ℕ, ◌<◌, ◌≤◌, true, false, List, ◌++◌, length, get_or, vec_items, IsUtf8, refl, ap, ◌∙◌, arith, rules}
 use Rattle.std.proofs.lemmas.Str.{IsCharBoundary-start}
 use Rattle.script.specs.Splits.{texts, blank, words_of}
-use Rattle.script.proofs.Splitting.{Sofar, turn_blank, turn_other, stops, ends}
+use Rattle.script.proofs.Splitting.{turn_blank, turn_other, stops, ends}
 use Rattle.script.proofs.split.split_words.Goals as goal
 use Rattle.script.proofs.split.split_words.Goals.{then-is_blank+in_ok-put-2, else-is_blank}
 
