@@ -1,6 +1,7 @@
 -- One line more of a script.
-use Rattle.std.proofs.Common.{◌≡◌, ℕ, ◌+◌, ◌<◌, ◌≤◌, ◌⊎◌, List, [], ◌∷◌, ◌++◌, length, Some, None, Ok, Err, fold, Option, Result, sym, refl, ap, ◌∙◌, subst, inl, inr, arith}
+use Rattle.std.proofs.Common.{◌≡◌, ℕ, ◌+◌, ◌<◌, ◌≤◌, List, [], ◌∷◌, ◌++◌, length, Ok, Err, Option, Result, sym, refl, ap, ◌∙◌, subst, inl, inr, arith}
 use Rattle.std.specs.Str.Lines as lines
+use Rattle.std.proofs.lemmas.List.{nil_from_length}
 use Rattle.std.proofs.lemmas.List.Sums.{fold_push}
 use Rattle.script.specs.declared.fault.Fault.{Fault}
 use Rattle.script.specs.declared.fault.ScriptError.{ScriptError}
@@ -11,7 +12,7 @@ use Rattle.script.specs.declared.parse.Script.{Script}
 use Rattle.script.specs.declared.statement.Call.{Call}
 use Rattle.script.specs.declared.statement.Statement.{Statement}
 use Rattle.script.specs.Statements.{and_then}
-use Rattle.script.specs.Scripts.{start, settled, head_after, spoken, Rejects, Refuses, ReadsLine, Progress, at_first, numbered, placed, stated, line_more, read_lines, Lines, Scripted, ReadsScript, Fails, Finishes, Parses}
+use Rattle.script.specs.Scripts.{settled, head_after, spoken, Rejects, Refuses, ReadsLine, Progress, at_first, numbered, placed, stated, line_more, read_lines, Lines, Fails, Finishes, Parses}
 
 lines_more : (text : List ℕ) (ls : List (List ℕ)) (l rest more : List ℕ) → Lines text ls rest → 0 < length rest → lines.IsFirstLine rest l more → Lines text (ls ++ l ∷ []) more
 lines_more text [] l rest more e h c = (more, subst (λ t. 0 < length t) (sym e) h, subst (λ t. lines.IsFirstLine t l more) (sym e) c, refl)
@@ -59,19 +60,15 @@ failed text rest line more n h cs (error.Line k f w) s x r =
     let p : Progress = record { number = n; head = h; calls = cs } in
     (s.seen ++ line ∷ [], more, lines_more text s.seen line rest more s.cut x.some x.first, inl (more_read s.seen line p s.ran ∙ not_stated p (spoken line) k f r))
 
-none_left : (rest : List ℕ) → length rest ≡ 0 → rest ≡ []
-none_left [] e = refl
-none_left (b ∷ bs) e = absurd (omega arith)
-
 pub finished : (text rest : List ℕ) (n : ℕ) (h : Head) (cs : List Line) (r : Result Script ScriptError) → Sofar text rest n h cs → length rest ≡ 0 → Finishes h (n + 1) cs r → Parses text r
 finished text rest n h cs (Ok s) o e f =
     record {
       lines = o.seen;
       progress = record { number = n; head = h; calls = cs };
-      whole = subst (Lines text o.seen) (none_left rest e) o.cut;
+      whole = subst (Lines text o.seen) (nil_from_length rest e) o.cut;
       read = o.ran;
       made = record { tile = f.tile; places = f.places; calls = f.calls };
     }
 finished text rest n h cs (Err error.Memory) o e f = tt
 finished text rest n h cs (Err (error.Line k g w)) o e f =
-    (o.seen, rest, o.cut, inr (none_left rest e, record { number = n; head = h; calls = cs }, o.ran, f.0, f.1.0, f.1.1))
+    (o.seen, rest, o.cut, inr (nil_from_length rest e, record { number = n; head = h; calls = cs }, o.ran, f.0, f.1.0, f.1.1))

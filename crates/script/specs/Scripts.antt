@@ -1,5 +1,5 @@
 -- What the lines of a script set, and the script that they make.
-use Rattle.std.specs.Prelude.{◌≡◌, ℕ, ◌+◌, ◌<◌, Bool, true, false, cond, ◌⊎◌, List, [], ◌∷◌, ◌++◌, length, is_some, Some, None, Ok, Err, vec_items, fold, Option, Result}
+use Rattle.std.specs.Prelude.{◌≡◌, ℕ, ◌+◌, ◌<◌, true, false, cond, ◌⊎◌, List, [], ◌∷◌, ◌++◌, length, is_some, Some, None, Ok, Err, vec_items, fold, Option, Result}
 use Rattle.std.specs.Option.{unwrap_or}
 use Rattle.std.specs.Str.Lines as lines
 use Rattle.std.specs.Result as results

@@ -1,4 +1,4 @@
-ghost use Rattle.std.specs.Prelude.{◌≡◌, List, ◌++◌, Some, codes};
+ghost use Rattle.std.specs.Prelude.{◌≡◌, Some};
 ghost use Rattle.script.specs.declared.fault.ScriptError.TheVariants.{Memory};
 ghost use Rattle.script.specs.Faults.{fault_text, error_text, Faulty};
 

@@ -1,4 +1,4 @@
-ghost use Rattle.std.specs.Prelude.{◌≡◌, List, ◌++◌, Some, codes, decimal};
+ghost use Rattle.std.specs.Prelude.{◌++◌, Some, codes, decimal};
 ghost use Rattle.av1.specs.Refusals.{number};
 ghost use Rattle.script.specs.Reports.{answer_text};
 

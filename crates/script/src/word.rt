@@ -1,4 +1,4 @@
-ghost use Rattle.std.specs.Prelude.{◌≡◌, ℕ, Bool, MatchOption, ◌≢◌};
+ghost use Rattle.std.specs.Prelude.{◌≡◌, Bool, MatchOption, ◌≢◌};
 ghost use Rattle.script.specs.Names.{size_name, partition_name, precision_name, flag_name};
 ghost use Rattle.script.specs.Numbers.{numeral, negative, read_number, read_integer, read_id};
 ghost use Rattle.av1.specs.declared.mv.MvSubpelPrecision.{MvSubpelPrecision};

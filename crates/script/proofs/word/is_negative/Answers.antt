@@ -9,4 +9,4 @@ returns-in-45 c =
     let some : 0 < length bs = search rules in
     let minus : get_or bs 0 0 ≡ 45 = search rules in
     let rest : take (length bs - 1) (drop 1 bs) ≡ drop 1 bs = take_all (length bs - 1) (drop 1 bs) (omega (arith, length-drop 1 bs)) in
-    c.is-numeral.ensures ∙ after_minus bs _ some minus rest
+    c.is_numeral.ensures ∙ after_minus bs _ some minus rest

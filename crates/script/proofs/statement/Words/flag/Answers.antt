@@ -7,6 +7,6 @@ use Rattle.script.proofs.statement.Words.flag.Goals as goal
 pub returns-in-Some : goal.returns-in-Some
 returns-in-Some c =
     record {
-      value = named flag_name flags NotAFlag c.in-Some.word.now (unread c.args.self.now) _ _ flag_found c.in-Some.ensures.value c.parse-flag.ensures c.ok-or.ensures.value;
+      value = named flag_name flags NotAFlag c.in-Some.word.now (unread c.args.self.now) _ _ flag_found c.in-Some.ensures.value c.parse_flag.ensures c.ok_or.ensures.value;
       after = c.in-Some.ensures.after;
     }

@@ -7,6 +7,6 @@ use Rattle.script.proofs.statement.Words.partition_type.Goals as goal
 pub returns-in-Some : goal.returns-in-Some
 returns-in-Some c =
     record {
-      value = named partition_name partitions UnknownPartition c.in-Some.word.now (unread c.args.self.now) _ _ partition_found c.in-Some.ensures.value c.parse-partition.ensures c.ok-or.ensures.value;
+      value = named partition_name partitions UnknownPartition c.in-Some.word.now (unread c.args.self.now) _ _ partition_found c.in-Some.ensures.value c.parse_partition.ensures c.ok_or.ensures.value;
       after = c.in-Some.ensures.after;
     }

@@ -7,6 +7,6 @@ use Rattle.script.proofs.statement.Words.precision.Goals as goal
 pub returns-in-Some : goal.returns-in-Some
 returns-in-Some c =
     record {
-      value = named precision_name precisions UnknownPrecision c.in-Some.word.now (unread c.args.self.now) _ _ precision_found c.in-Some.ensures.value c.parse-precision.ensures c.ok-or.ensures.value;
+      value = named precision_name precisions UnknownPrecision c.in-Some.word.now (unread c.args.self.now) _ _ precision_found c.in-Some.ensures.value c.parse_precision.ensures c.ok_or.ensures.value;
       after = c.in-Some.ensures.after;
     }

@@ -7,6 +7,6 @@ use Rattle.script.proofs.statement.Words.size.Goals as goal
 pub returns-in-Some : goal.returns-in-Some
 returns-in-Some c =
     record {
-      value = named size_name sizes UnknownSize c.in-Some.word.now (unread c.args.self.now) _ _ size_found c.in-Some.ensures.value c.parse-size.ensures c.ok-or.ensures.value;
+      value = named size_name sizes UnknownSize c.in-Some.word.now (unread c.args.self.now) _ _ size_found c.in-Some.ensures.value c.parse_size.ensures c.ok_or.ensures.value;
       after = c.in-Some.ensures.after;
     }

@@ -3,24 +3,24 @@ use Rattle.script.specs.Statements.{unread, statement_from}
 use Rattle.script.proofs.Saying.{Unknown, unknown_word}
 use Rattle.script.proofs.statement.Words.statement.Goals as goal
 
-pub returns-in-default-word : goal.returns-in-default-word
-returns-in-default-word c =
+pub returns-in_default-word : goal.returns-in_default-word
+returns-in_default-word c =
     let ws : List (List ℕ) = drop 1 (unread c.args.self.now) in
-    let no = c.in-default-word in
+    let no = c.in_default-word in
     let unknown : Unknown c.in-Some.word.now =
     record {
-      not_tile = no.not_tile;
-      not_sink = no.not_sink;
-      not_partition = no.not_partition;
-      not_skip = no.not_skip;
-      not_segment = no.not_segment;
-      not_alphas = no.not_alphas;
-      not_vector = no.not_vector;
-      not_context = no.not_context;
-      not_row = no.not_row;
-      not_log = no.not_log;
-      not_open = no.not_open;
-      not_back = no.not_back;
-      not_keep = no.not_keep;
+      not_tile = no.not-tile;
+      not_sink = no.not-sink;
+      not_partition = no.not-partition;
+      not_skip = no.not-skip;
+      not_segment = no.not-segment;
+      not_alphas = no.not-alphas;
+      not_vector = no.not-vector;
+      not_context = no.not-context;
+      not_row = no.not-row;
+      not_log = no.not-log;
+      not_open = no.not-open;
+      not_back = no.not-back;
+      not_keep = no.not-keep;
     } in
     unknown_word c.in-Some.word.now ws unknown ∙ ap (λ o. statement_from o ws) c.in-Some.ensures.value
