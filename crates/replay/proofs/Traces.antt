@@ -1,5 +1,5 @@
 -- A list of calls is a run of the model, so that the laws over runs hold of it.
-use Rattle.std.proofs.Common.{◌≡◌, ℕ, suc, ◌*◌, ◌<◌, ◌≤◌, true, false, ◌≢◌, List, [], ◌∷◌, ◌++◌, map, length, get_or, take, sym, refl, ap, ◌∙◌, subst, subst₂, arith}
+use Rattle.std.proofs.Common.{◌≡◌, ℕ, suc, ◌*◌, ◌<◌, List, [], ◌∷◌, ◌++◌, map, length, take, sym, refl, ap, ◌∙◌, subst, subst₂}
 use mathlib.Core.Option.{Option, none, some}
 use Rattle.std.proofs.Math.Seq.{take-append_seam}
 use Rattle.std.proofs.lemmas.List.{length-map}
@@ -12,7 +12,6 @@ use Rattle.model.specs.Runs.{World, Core, Lent, Standing, Book, noted, empty_boo
 use Rattle.model.specs.Worked.{start}
 use Rattle.model.proofs.Staged.{stage_no_trace, stage_tells_apart}
 use Rattle.replay.specs.declared.call.Answer.{Answer}
-use Rattle.replay.specs.declared.call.Answer.TheVariants as told
 use Rattle.replay.specs.declared.call.Call.{Call}
 use Rattle.replay.specs.declared.call.Call.TheVariants as call
 use Rattle.replay.specs.Calls.{asking, answer_of, call_step}
@@ -93,7 +92,7 @@ pub starts_over : (from : State) (s : Stage) (cells : List Cell) (lent : Lent st
     → world s cells lent es ≡ started from lent es
 starts_over from s cells lent es h =
     ap (λ (w : World stage).
-      let again : World stage = record { core = record { state = w.core.state; entries = es }; small = w.small; large = w.large; spots = w.spots; marks = w.marks } in again)
+    let again : World stage = record { core = record { state = w.core.state; entries = es }; small = w.small; large = w.large; spots = w.spots; marks = w.marks } in again)
     h
 
 -- it has as many units as columns by rows

@@ -1,14 +1,12 @@
-use Rattle.std.proofs.Common.{◌≡◌, ◌*◌, ◌≤◌, true, nat_le, cond, List, ◌++◌, length, replicate, take, drop, sym, refl, ap, ◌∙◌, ap₂, arith, rules}
+use Rattle.std.proofs.Common.{◌≡◌, ◌*◌, ◌≤◌, ◌++◌, length, replicate, take, drop, sym, ap, ◌∙◌, ap₂, arith, rules}
 use Rattle.std.proofs.lemmas.Bool.{le-leb}
 use Rattle.std.proofs.lemmas.List.{length-replicate}
 use Rattle.std.proofs.lemmas.Result.{err_from_is_err_and}
 use Rattle.std.proofs.lemmas.Slice.{drop-append-drop}
 use Rattle.av1.specs.Tiles.{no_cell}
-use Rattle.model.specs.Decisions.{Sound, start_asked, stage as subject}
-use Rattle.model.specs.Runs.{World}
+use Rattle.model.specs.Decisions.{Sound}
 use Rattle.model.specs.Worked.{start}
 use Rattle.model.proofs.Examples.{starts_sound}
-use Rattle.replay.specs.declared.write.ReplayError.TheVariants as error
 use Rattle.replay.specs.Runs.{ran, started, start_error}
 use Rattle.stage.specs.View.{lanes, units_of, world}
 use Rattle.replay.proofs.Traces.{front_answers, is_refused_where_asked, starts_over, start_units, leaves_no_trace, has_outcome, is_told_apart}
