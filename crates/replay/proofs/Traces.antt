@@ -77,7 +77,7 @@ ran_refused memory room [] w = tt
 ran_refused memory room (c ∷ cs) w =
     (refused_seen w c (refusal stage memory room w (asking c)), ran_refused memory room cs (step stage memory room w (asking c)).world)
 
--- the answers are the first of a memory that begins with them
+-- where a memory begins with the answers, its front is the answers
 pub front_answers : (memory : ℕ) (room : List Entry → ℕ) (cs : List Call) (w : World stage) (as' rest : List Answer)
     → as' ≡ (ran memory room cs w).answers ++ rest → (ran memory room cs w).answers ≡ take (length cs) as'
 front_answers memory room cs w as' rest h =
@@ -87,7 +87,7 @@ pub is_refused_where_asked : (memory : ℕ) (room : List Entry → ℕ) (cs : Li
     → (ran memory room cs w).answers ≡ answers → RefusedWhereAsked memory room w cs answers
 is_refused_where_asked memory room cs w told = subst (RefusedWhereAsked memory room w cs) told (ran_refused memory room cs w)
 
--- a stage at its start is there over any list of entries
+-- a stage that starts over an empty list starts alike over any list
 pub starts_over : (from : State) (s : Stage) (cells : List Cell) (lent : Lent stage) (es : List Entry) → world s cells lent [] ≡ fresh stage from lent
     → world s cells lent es ≡ started from lent es
 starts_over from s cells lent es h =
@@ -95,13 +95,13 @@ starts_over from s cells lent es h =
     let again : World stage = record { core = record { state = w.core.state; entries = es }; small = w.small; large = w.large; spots = w.spots; marks = w.marks } in again)
     h
 
--- it has as many units as columns by rows
+-- a stage at its start has columns × rows units
 pub start_units : (columns rows last : ℕ) (s : Stage) (cells : List Cell) (lent : Lent stage) → world s cells lent [] ≡ fresh stage (start columns rows last) lent
     → units_of s ≡ columns * rows
 unfolding start
 start_units columns rows last s cells lent h = ap (λ (w : World stage). units w.core.state) h
 
--- over a sink that was empty
+-- what holds of a list of calls over a sink that was empty
 module _ (memory : ℕ) (room : List Entry → ℕ) (from : State) (lent : Lent stage) (es : List Entry) (cs : List Call) {answers : List Answer} {end : World stage}
     (answered : (ran memory room cs (started from lent es)).answers ≡ answers) (ended : (ran memory room cs (started from lent es)).world ≡ end) (empty : es ≡ []) where
   as_told : (ran memory room cs (fresh stage from lent)).answers ≡ answers
