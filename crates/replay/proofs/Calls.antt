@@ -14,14 +14,20 @@ use Rattle.model.specs.Decisions.{Decision, stage, decided}
 use Rattle.model.specs.Runs.{World, Asking, ask, open_trial, take_back, keep, refusal, answered, sent}
 use Rattle.replay.specs.declared.call.Answer.{Answer}
 use Rattle.replay.specs.declared.call.Answer.TheVariants as told
+use Rattle.replay.specs.declared.call.Call.{Call}
 use Rattle.replay.specs.declared.call.Call.TheVariants as call
 use Rattle.replay.specs.Calls.{answer_to, answer_of, call_step, counted, segmented, settled, deep}
+
+-- the step of a call that is made, and whose answer is seen
+pub call_made : (memory : ℕ) (room : List Entry → ℕ) (w v : World stage) {c d : Call} {a b : Answer} → c ≡ d → a ≡ b
+    → ◌≡◌ {A = Answer × World stage} (b, v) (call_step memory room d w) → ◌≡◌ {A = Answer × World stage} (a, v) (call_step memory room c w)
+call_made memory room w v same seen step = ap (λ (a : Answer). (a, v)) seen ∙ step ∙ sym (ap (λ (c : Call). call_step memory room c w) same)
 
 module _ (memory : ℕ) (room : List Entry → ℕ) (w v : World stage) where
   -- a call's result, seen as an answer, is what the model's call tells
   seen : {A : Type 0} (c : Asking stage) (view : Result A Refusal → Answer) (a : A)
       → view (Ok a) ≡ answer_of (answered stage w c none).answer → ((e : Refusal) → view (Err e) ≡ told.Refused e)
-      → (o : Option Refusal) → (view (answer_by o a), (answered stage w c o).world) ≡ (answer_of (answered stage w c o).answer, (answered stage w c o).world)
+      → (o : Option Refusal) → ◌≡◌ {A = Answer × World stage} (view (answer_by o a), (answered stage w c o).world) (answer_of (answered stage w c o).answer, (answered stage w c o).world)
   seen c view a accepted refused none = ap (λ (x : Answer). (x, (answered stage w c none).world)) accepted
   seen c view a accepted refused (some e) = ap (λ (x : Answer). (x, w)) (refused e)
 
@@ -30,7 +36,8 @@ module _ (memory : ℕ) (room : List Entry → ℕ) (w v : World stage) where
   entries_of q d = length (sent stage w.core.state q (decided w.core.state q d)).entries
 
   counted_call : (q : Question) (d : Decision q) → told.Wrote (entries_of q d) ≡ answer_to (entries_of q d) q (decided w.core.state q d)
-      → (o : Option Refusal) → (counted (answer_by o (entries_of q d)), (answered stage w (ask q d) o).world) ≡ (answer_of (answered stage w (ask q d) o).answer, (answered stage w (ask q d) o).world)
+      → (o : Option Refusal)
+      → ◌≡◌ {A = Answer × World stage} (counted (answer_by o (entries_of q d)), (answered stage w (ask q d) o).world) (answer_of (answered stage w (ask q d) o).answer, (answered stage w (ask q d) o).world)
   counted_call q d same o = seen (ask q d) counted (entries_of q d) same (λ e. refl) o
 
   pub partition_call : (x y : ℕ) (z : BlockSize) (p : PartitionType) (r : Result ℕ Refusal) → (r, v) ≡ decision_step memory room (of.Partition x y z) (number p) w

@@ -1,19 +1,23 @@
 -- A list of calls is a run of the model, so that the laws over runs hold of it.
-use Rattle.std.proofs.Common.{◌≡◌, ℕ, suc, ◌<◌, ◌≤◌, true, false, ◌≢◌, List, [], ◌∷◌, ◌++◌, map, length, get_or, take, sym, refl, ap, ◌∙◌, subst, subst₂, arith}
+use Rattle.std.proofs.Common.{◌≡◌, ℕ, suc, ◌*◌, ◌<◌, List, [], ◌∷◌, ◌++◌, map, length, take, sym, refl, ap, ◌∙◌, subst, subst₂}
 use mathlib.Core.Option.{Option, none, some}
-use Rattle.std.proofs.lemmas.List.{take_at, length-map}
+use Rattle.std.proofs.Math.Seq.{take-append_seam}
+use Rattle.std.proofs.lemmas.List.{length-map}
 use Rattle.av1.specs.declared.refusal.Refusal.{Refusal}
+use Rattle.av1.specs.declared.tile.Cell.{Cell}
 use Rattle.cdf.specs.declared.entry.Entry.{Entry}
 use Rattle.model.specs.declared.Question.{Question}
 use Rattle.model.specs.Decisions.{State, Sound, Decision, stage, units}
 use Rattle.model.specs.Runs.{World, Core, Lent, Standing, Book, noted, empty_book, fresh, as_call, Accepted, answered, refusal, step, run, symbol}
+use Rattle.model.specs.Worked.{start}
 use Rattle.model.proofs.Staged.{stage_no_trace, stage_tells_apart}
 use Rattle.replay.specs.declared.call.Answer.{Answer}
-use Rattle.replay.specs.declared.call.Answer.TheVariants as told
 use Rattle.replay.specs.declared.call.Call.{Call}
 use Rattle.replay.specs.declared.call.Call.TheVariants as call
 use Rattle.replay.specs.Calls.{asking, answer_of, call_step}
 use Rattle.replay.specs.Runs.{ran, told_of, book_of, standing, started, Outcome, NoTraceOf, ToldApart, SymbolsDiffer, refused_in, RefusedWhereAsked}
+use Rattle.stage.specs.declared.state.Stage.{Stage}
+use Rattle.stage.specs.View.{units_of, world}
 
 -- what a call tells is seen in its answer
 told_again : (w : World stage) (c : Call) (o : Option Refusal) → told_of c (answer_of (answered stage w (asking c) o).answer) ≡ (answered stage w (asking c) o).answer
@@ -73,8 +77,39 @@ ran_refused memory room [] w = tt
 ran_refused memory room (c ∷ cs) w =
     (refused_seen w c (refusal stage memory room w (asking c)), ran_refused memory room cs (step stage memory room w (asking c)).world)
 
-module _ (memory : ℕ) (room : List Entry → ℕ) (from : State) (lent : Lent stage) (cs : List Call) {answers : List Answer} {end : World stage}
-    (told : (ran memory room cs (fresh stage from lent)).answers ≡ answers) (left : (ran memory room cs (fresh stage from lent)).world ≡ end) where
+-- where a memory begins with the answers, its front is the answers
+pub front_answers : (memory : ℕ) (room : List Entry → ℕ) (cs : List Call) (w : World stage) (as' rest : List Answer)
+    → as' ≡ (ran memory room cs w).answers ++ rest → (ran memory room cs w).answers ≡ take (length cs) as'
+front_answers memory room cs w as' rest h =
+    sym (ap (take (length cs)) h ∙ ap (λ n. take n ((ran memory room cs w).answers ++ rest)) (sym (ran_length memory room cs w)) ∙ take-append_seam (ran memory room cs w).answers rest)
+
+pub is_refused_where_asked : (memory : ℕ) (room : List Entry → ℕ) (cs : List Call) (w : World stage) {answers : List Answer}
+    → (ran memory room cs w).answers ≡ answers → RefusedWhereAsked memory room w cs answers
+is_refused_where_asked memory room cs w told = subst (RefusedWhereAsked memory room w cs) told (ran_refused memory room cs w)
+
+-- a stage that starts over an empty list starts alike over any list
+pub starts_over : (from : State) (s : Stage) (cells : List Cell) (lent : Lent stage) (es : List Entry) → world s cells lent [] ≡ fresh stage from lent
+    → world s cells lent es ≡ started from lent es
+starts_over from s cells lent es h =
+    ap (λ (w : World stage).
+    let again : World stage = record { core = record { state = w.core.state; entries = es }; small = w.small; large = w.large; spots = w.spots; marks = w.marks } in again)
+    h
+
+-- a stage at its start has columns × rows units
+pub start_units : (columns rows last : ℕ) (s : Stage) (cells : List Cell) (lent : Lent stage) → world s cells lent [] ≡ fresh stage (start columns rows last) lent
+    → units_of s ≡ columns * rows
+unfolding start
+start_units columns rows last s cells lent h = ap (λ (w : World stage). units w.core.state) h
+
+-- what holds of a list of calls over a sink that was empty
+module _ (memory : ℕ) (room : List Entry → ℕ) (from : State) (lent : Lent stage) (es : List Entry) (cs : List Call) {answers : List Answer} {end : World stage}
+    (answered : (ran memory room cs (started from lent es)).answers ≡ answers) (ended : (ran memory room cs (started from lent es)).world ≡ end) (empty : es ≡ []) where
+  as_told : (ran memory room cs (fresh stage from lent)).answers ≡ answers
+  as_told = ap (λ l. (ran memory room cs (started from lent l)).answers) (sym empty) ∙ answered
+
+  left : (ran memory room cs (fresh stage from lent)).world ≡ end
+  left = ap (λ l. (ran memory room cs (started from lent l)).world) (sym empty) ∙ ended
+
   ends : (run stage memory room (fresh stage from lent) (empty_book stage) (map asking cs)).world ≡ end
   ends = sym (ran_world memory room cs (fresh stage from lent) (empty_book stage)) ∙ left
 
@@ -84,19 +119,16 @@ module _ (memory : ℕ) (room : List Entry → ℕ) (from : State) (lent : Lent 
       (λ (xs : List (Standing stage)) (k : Core stage).
       Accepted stage memory' room (fresh stage from lent') (map (as_call stage) xs)
       × ((run stage memory' room (fresh stage from lent') (empty_book stage) (map (as_call stage) xs)).world.core ≡ k))
-      (standing_is memory room from lent cs told) (ap (λ (w : World stage). w.core) ends)
+      (standing_is memory room from lent cs as_told) (ap (λ (w : World stage). w.core) ends)
       (stage_no_trace memory memory' room from lent lent' (map asking cs) sound mapped)
 
   pub has_outcome : Outcome from cs answers end.core.entries
-  has_outcome = record { memory = memory; room = room; lent = lent; answered = told; left = ap (λ (w : World stage). w.core.entries) left }
+  has_outcome = record { memory = memory; room = room; lent = lent; answered = as_told; left = ap (λ (w : World stage). w.core.entries) left }
 
   pub is_told_apart : Sound from → ToldApart from cs answers end.core.entries
   is_told_apart sound calls' answers' entries' o same more more' q d e one two differ =
       let p = stage_tells_apart memory o.memory room o.room from lent o.lent (map asking cs) (map asking calls') same q d e more more' sound
-      (standing_is memory room from lent cs told ∙ one) (standing_is o.memory o.room from o.lent calls' o.answered ∙ two) differ in
+      (standing_is memory room from lent cs as_told ∙ one) (standing_is o.memory o.room from o.lent calls' o.answered ∙ two) differ in
       subst₂ SymbolsDiffer (ap (λ (w : World stage). w.core.entries) ends)
       (sym (ap (λ (w : World stage). w.core.entries) (ran_world o.memory o.room calls' (fresh stage from o.lent) (empty_book stage))) ∙ o.left)
       (p.0, subst (λ n. p.0 < n) (length-map _ (symbol stage)) p.1, subst (λ n. p.0 < n) (length-map _ (symbol stage)) p.2, p.3)
-
-  pub is_refused_where_asked : RefusedWhereAsked memory room (fresh stage from lent) cs answers
-  is_refused_where_asked = subst (RefusedWhereAsked memory room (fresh stage from lent) cs) told (ran_refused memory room cs (fresh stage from lent))

@@ -8,7 +8,7 @@ use Rattle.journal.specs.declared.Spot.{Spot}
 use Rattle.journal.specs.declared.Spot.TheVariants as spot
 use Rattle.journal.specs.declared.Window.{Window}
 use Rattle.model.specs.Decisions.{State, stage, units, decided, put_back, put_spot}
-use Rattle.model.specs.Runs.{World, Asking, ask, open_trial, take_back, keep, answered, done_call, at_mark, kept_marks, log_open, trail_of, above, refusal, unwound}
+use Rattle.model.specs.Runs.{World, Asking, ask, open_trial, take_back, keep, answered, done_call, at_mark, kept_marks, trail_of, above, refusal, unwound}
 use Rattle.model.proofs.Staged.{stage_laws}
 use Rattle.replay.specs.declared.call.Answer.{Answer}
 use Rattle.replay.specs.declared.call.Call.{Call}

@@ -10,7 +10,6 @@ use Rattle.model.specs.declared.Question.TheVariants as of
 use Rattle.model.specs.Decisions.{State, Decision, stage, units, start_asked}
 use Rattle.model.specs.Runs.{World, Core, Lent, Book, Standing, Told, wrote, opened, ended, refused, noted, empty_book, fresh, as_call, Accepted, unused, symbol}
 use Rattle.model.specs.Runs as model
-use Rattle.model.specs.Worked.{start}
 use Rattle.replay.specs.declared.call.Answer.{Answer}
 use Rattle.replay.specs.declared.call.Answer.TheVariants as told
 use Rattle.replay.specs.declared.call.Call.{Call}

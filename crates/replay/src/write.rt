@@ -1,5 +1,6 @@
 ghost use Rattle.std.specs.Prelude.{◌≡◌, ◌*◌, ◌≤◌, false, List, [], ◌++◌, length, take, drop, is_ok, IfOk};
 ghost use Rattle.model.specs.Worked.{start};
+ghost use Rattle.replay.specs.declared.write.ReplayError.TheVariants.{Start};
 ghost use Rattle.replay.specs.Runs.{ran, started, stopped_by, write_asked, core_of, NoTraceOf, Outcome, ToldApart, RefusedWhereAsked};
 ghost use Rattle.stage.specs.Lanes.{SameMemory};
 ghost use Rattle.stage.specs.View.{lanes, units_of, world};
@@ -20,6 +21,8 @@ pub enum ReplayError {
 }
 
 impl From<Refusal> for ReplayError {
+    ghost from_gives = { λ why r. r ≡ Start why };
+
     fn from(why: Refusal) -> ReplayError {
         ReplayError::Start(why)
     }

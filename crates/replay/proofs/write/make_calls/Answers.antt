@@ -1,5 +1,4 @@
 use Rattle.std.proofs.Common.{◌≡◌, ◌<◌, length, drop, sym, ap, ◌∙◌, arith, rules}
-use Rattle.replay.specs.declared.call.Call.TheVariants as call
 use Rattle.stage.specs.View.{lanes, units_of, world}
 use Rattle.replay.proofs.Playing.{world_again, answers_again, rest_again, world_ends, answers_end}
 use Rattle.replay.proofs.Units.{step_units}
@@ -21,8 +20,8 @@ loop-i-preserved g c =
       search rules,
       same ∙ inv.2,
       sym (ap (λ k. drop k c.make_call.new.map) inv.2) ∙ c.make_call.ensures.behind ∙ ap (λ k. drop k c.loop-i.map) inv.2 ∙ inv.3,
-      world_again n r calls i call.RowStart w long inv.0 c.make_call.ensures.step here inv.4,
-      answers_again n r calls i call.RowStart w long inv.0 c.make_call.ensures.step here c.loop-i.answers there inv.5,
+      world_again n r calls i _ w long inv.0 c.make_call.ensures.step here inv.4,
+      answers_again n r calls i _ w long inv.0 c.make_call.ensures.step here c.loop-i.answers there inv.5,
       rest_again i c.make_call.result c.loop-i.answers c.args.answers.now inv.6,
     )
 
