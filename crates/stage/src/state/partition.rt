@@ -15,6 +15,7 @@ ghost use Rattle.stage.specs.Lanes.{SameMemory};
 ghost use Rattle.stage.specs.Partitions.{context_at, entries_at, small_at, large_at};
 ghost use Rattle.stage.specs.View.{lanes, world};
 
+use crate::state::symbols::put_entry;
 use crate::state::{Contexts, Stage};
 use av1::{BlockSize, PartitionType, Refusal};
 use cdf::Edge;
@@ -89,7 +90,7 @@ impl Stage {
         let Some(entry) = self.tables.edge_symbol(first, n, edge, s) else {
             unreachable()
         };
-        let _ = sink.put(entry);
+        put_entry(sink, entry);
     }
 
     // Codes a partition: by the table where the tile has rows and columns for both halves, at an edge by two symbols,

@@ -1,5 +1,6 @@
-ghost use Rattle.std.specs.Prelude.{◌≡◌, ◌+◌, ◌<◌, ◌≤◌, true, List, [], ◌∷◌, length};
+ghost use Rattle.std.specs.Prelude.{◌≡◌, ◌+◌, ◌<◌, ◌≤◌, true, List, [], ◌∷◌, ◌++◌, length};
 ghost use Rattle.av1.specs.declared.tile.Cell.{Cell};
+ghost use Rattle.cdf.specs.Entries.{is_entry};
 ghost use Rattle.cdf.specs.Layout.{in_layout};
 ghost use Rattle.cdf.specs.Words.{table};
 ghost use Rattle.model.specs.Calls.{log_if, small_log, large_log, symbol_step};
@@ -10,7 +11,7 @@ ghost use Rattle.stage.specs.Lanes.{SameMemory};
 ghost use Rattle.stage.specs.View.{lane, lanes, marks_of, world};
 
 use crate::state::{Journal, Stage};
-use cdf::Tables;
+use cdf::{Entry, Tables};
 use journal::{Log, Window};
 use record::Sink;
 
@@ -37,6 +38,17 @@ pub(super) fn log_record<R: Copy>(records: &mut [R], used: &mut usize, r: R)
     let at = *used;
     records[at] = r;
     *used = at + 1;
+}
+
+// Puts an entry into a sink that has room for it.
+#[tactic(auto, using(crate::proofs::Symbols::put_lawful))]
+pub(super) fn put_entry<S: Sink>(sink: &mut S, entry: Entry)
+    requires entry { is_entry entry ≡ true }
+    requires room { 0 < S.Sink.rooms sink.old (S.Sink.list sink.old) }
+    ensures list { S.Sink.list sink.new ≡ S.Sink.list sink.old ++ entry ∷ [] }
+    ensures rooms { S.Sink.rooms sink.new ≡ S.Sink.rooms sink.old }
+{
+    let _ = sink.put(entry);
 }
 
 impl Journal {
@@ -93,6 +105,6 @@ impl Stage {
         let Some(entry) = self.tables.symbol_with_update(first, n, s) else {
             unreachable()
         };
-        let _ = sink.put(entry);
+        put_entry(sink, entry);
     }
 }

@@ -5,7 +5,6 @@ use Rattle.cdf.specs.Words.{Words, table}
 use Rattle.model.specs.Coders.{edge, entry_of}
 use Rattle.stage.specs.View.{state_of}
 use Rattle.stage.proofs.Partitions.{edge_entry, edge_world}
-use Rattle.stage.proofs.Symbols.{put_lawful}
 use Rattle.stage.proofs.state.Stage.edge_symbol.Goals as goal
 
 pub returns : goal.returns
@@ -17,9 +16,9 @@ returns g c =
     let es : List Entry = k.list c.args.sink.now in
     let e : Entry = c.in-Some.entry in
     let same : e ≡ entry_of w (edge t (edge_symbols c.args.edge)) c.args.s = edge_entry w t c.args.edge c.args.s e c.requires.table c.requires.symbol c.in-Some.ensures.entry in
-    let list : k.list c.put.new.self ≡ es ++ entry_of w (edge t (edge_symbols c.args.edge)) c.args.s ∷ [] =
-    put_lawful e (k.rooms c.args.sink.now es) es (k.list c.put.new.self) c.in-Some.ensures.lawful c.requires.room c.put.ensures.list ∙ ap (λ x. es ++ x ∷ []) same in
+    let list : k.list c.put_entry.new.sink ≡ es ++ entry_of w (edge t (edge_symbols c.args.edge)) c.args.s ∷ [] =
+    c.put_entry.ensures.list ∙ ap (λ x. es ++ x ∷ []) same in
     record {
-      step = λ memory l. edge_world (state_of s memory) s.journal l es (k.list c.put.new.self) t c.args.edge c.args.s list;
-      rooms = c.put.ensures.rooms;
+      step = λ memory l. edge_world (state_of s memory) s.journal l es (k.list c.put_entry.new.sink) t c.args.edge c.args.s list;
+      rooms = c.put_entry.ensures.rooms;
     }

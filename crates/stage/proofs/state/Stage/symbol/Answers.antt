@@ -4,7 +4,7 @@ use Rattle.cdf.specs.Entries.{is_entry}
 use Rattle.cdf.specs.Words.{Words, table, updated}
 use Rattle.model.specs.Coders.{whole, entry_of}
 use Rattle.stage.specs.View.{lanes, state_of}
-use Rattle.stage.proofs.Symbols.{symbol_words, symbol_entry, put_lawful, symbol_world}
+use Rattle.stage.proofs.Symbols.{symbol_words, symbol_entry, symbol_world}
 use Rattle.stage.proofs.state.Stage.symbol.Goals as goal
 
 pub returns : goal.returns
@@ -16,20 +16,20 @@ returns g c =
     let v : ℕ = c.args.s in
     let es : List Entry = k.list c.args.sink.now in
     let room : ℕ = k.rooms c.args.sink.now es in
+    let put = c.put_entry.ensures in
     let e : Entry = c.in-Some.entry in
     let words : c.symbol_with_update.new.self.words ≡ updated w t v = symbol_words w c.symbol_with_update.new.self.words t v c.requires.table c.requires.symbol c.in-Some.ensures.words in
     let entry : e ≡ entry_of w (whole t) v = symbol_entry w t v e c.requires.table c.requires.symbol c.in-Some.ensures.entry in
-    let list : k.list c.put.new.self ≡ es ++ entry_of w (whole t) v ∷ [] =
-    put_lawful e room es (k.list c.put.new.self) c.in-Some.ensures.lawful c.requires.room c.put.ensures.list ∙ ap (λ x. es ++ x ∷ []) entry in
+    let list : k.list c.put_entry.new.sink ≡ es ++ entry_of w (whole t) v ∷ [] = put.list ∙ ap (λ x. es ++ x ∷ []) entry in
     let lawful : is_entry (entry_of w (whole t) v) ≡ true = subst (λ x. is_entry x ≡ true) entry c.in-Some.ensures.lawful in
     let l = c.log_table.ensures in
     record {
       step = λ memory.
-          symbol_world (state_of s memory) s.journal c.log_table.new.self (lanes c.args.log.now) (lanes c.log_table.new.log) es (k.list c.put.new.self)
+          symbol_world (state_of s memory) s.journal c.log_table.new.self (lanes c.args.log.now) (lanes c.log_table.new.log) es (k.list c.put_entry.new.sink)
           c.symbol_with_update.new.self.words t v words list l.small l.large l.spots.0 l.spots.1 l.trials.0 l.trials.1;
-      rooms = c.put.ensures.rooms;
+      rooms = put.rooms;
       left =
-          subst (λ (f : List Entry → ℕ). room ≤ f (k.list c.put.new.self) + 1) (sym c.put.ensures.rooms)
+          subst (λ (f : List Entry → ℕ). room ≤ f (k.list c.put_entry.new.sink) + 1) (sym put.rooms)
           (subst (λ (m : List Entry). room ≤ k.rooms c.args.sink.now m + 1) (sym list) (k.laws.falls c.args.sink.now es (entry_of w (whole t) v) lawful));
       few = l.few;
       many = l.many;
