@@ -10,13 +10,14 @@ use coding::code;
 use script::parse::parse;
 use std::alloc::Global;
 use std::fmt::Write;
+use std::process::ExitCode;
 use std::{env, fs};
 
-/// What is printed for a script.
+/// What is printed for a script: what its calls answer, or its fault.
 fn printed(heap: Global, text: &str) -> anyhow::Result<String> {
     match parse(heap, text) {
         Ok(script) => code(heap, &script),
-        Err(e) => Err(anyhow!(e.to_string(heap)?)),
+        Err(e) => Ok(e.to_string(heap)?),
     }
 }
 
@@ -81,12 +82,12 @@ fn run(rt: &HostRuntime) -> anyhow::Result<()> {
     Ok(())
 }
 
-fn main(rt: HostRuntime) -> anyhow::Result<()> {
+fn main(rt: HostRuntime) -> ExitCode {
     match run(&rt) {
-        Ok(()) => Ok(()),
+        Ok(()) => ExitCode::SUCCESS,
         Err(e) => {
-            rt.eprintln(&e)?;
-            Err(e)
+            let _ = rt.eprintln(&e);
+            ExitCode::FAILURE
         }
     }
 }

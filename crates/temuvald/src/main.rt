@@ -2,10 +2,10 @@
 //! state. The script is the file that is named, or else the standard input.
 #![tactic(auto)]
 
-use anyhow::anyhow;
 use coding::code;
 use script::parse::parse;
 use std::io::Read;
+use std::process::ExitCode;
 use std::{env, fs};
 
 fn script_text(rt: &HostRuntime) -> anyhow::Result<String> {
@@ -21,24 +21,27 @@ fn script_text(rt: &HostRuntime) -> anyhow::Result<String> {
     }
 }
 
-fn run(rt: &HostRuntime) -> anyhow::Result<()> {
+fn run(rt: &HostRuntime) -> anyhow::Result<ExitCode> {
     let text = script_text(rt)?;
     match parse(rt.alloc(), text.as_str()) {
         Ok(script) => {
             let report = code(rt.alloc(), &script)?;
             rt.print(report.as_str())?;
-            Ok(())
+            Ok(ExitCode::SUCCESS)
         }
-        Err(e) => Err(anyhow!(e.to_string(rt.alloc())?)),
+        Err(e) => {
+            rt.eprintln(&e)?;
+            Ok(ExitCode::FAILURE)
+        }
     }
 }
 
-fn main(rt: HostRuntime) -> anyhow::Result<()> {
+fn main(rt: HostRuntime) -> ExitCode {
     match run(&rt) {
-        Ok(()) => Ok(()),
+        Ok(status) => status,
         Err(e) => {
-            rt.eprintln(&e)?;
-            Err(e)
+            let _ = rt.eprintln(&e);
+            ExitCode::FAILURE
         }
     }
 }
