@@ -28,11 +28,7 @@ impl CFLSign {
         ensures value { result ≡ sign_number self }
         ensures most { result < 3 }
     {
-        match self {
-            CFLSign::CFL_SIGN_ZERO => 0,
-            CFLSign::CFL_SIGN_NEG => 1,
-            CFLSign::CFL_SIGN_POS => 2,
-        }
+        self as usize
     }
 }
 
@@ -49,13 +45,9 @@ fn coded(alpha: i32, other: i32) -> Option<(usize, usize)>
     ensures value { result ≡ coded_alpha alpha other }
     ensures within { IfSome result (λ s. (s.0 < 6) × (s.1 < magnitude alpha)) }
 {
-    let sign = CFLSign::from_alpha(alpha).number();
-    if sign == 0 {
-        return None;
-    }
-    let context = (sign - 1) * 3 + CFLSign::from_alpha(other).number();
-    let index = alpha.unsigned_abs() as usize - 1;
-    Some((context, index))
+    let sign = CFLSign::from_alpha(alpha).number().checked_sub(1)?;
+    let context = 3 * sign + CFLSign::from_alpha(other).number();
+    Some((context, alpha.unsigned_abs() as usize - 1))
 }
 
 impl CFLParams {
@@ -63,7 +55,7 @@ impl CFLParams {
         ensures allowed { is_some result ≡ alphas_allowed (u, v) }
         ensures made { IfSome result (λ p. (p.u ≡ u) × (p.v ≡ v)) }
     {
-        if u < -16 || u > 16 || v < -16 || v > 16 || (u == 0 && v == 0) {
+        if u.unsigned_abs() > 16 || v.unsigned_abs() > 16 || (u == 0 && v == 0) {
             return None;
         }
         Some(CFLParams { u, v })
