@@ -1,6 +1,8 @@
-ghost use Rattle.std.specs.Prelude.{◌≡◌, ◌+◌, ◌<◌, ◌≤◌, true, [], ◌∷◌, is_some, IfSome, All};
+ghost use Rattle.std.specs.Prelude.{◌≡◌, ◌+◌, ◌<◌, ◌≤◌, IsTrue, [], ◌∷◌, is_some, IfSome, All};
 ghost use Rattle.av1.specs.Alphas.{sign_of, sign_number, alphas_allowed, joint_sign, coded_alpha};
 ghost use Rattle.av1.specs.Vectors.{magnitude, nonzero};
+
+use std::cmp::Ordering;
 
 /// The sign of an alpha.
 #[derive(Clone, Copy, PartialEq, Debug)]
@@ -14,12 +16,10 @@ impl CFLSign {
     pub fn from_alpha(a: i32) -> CFLSign
         ensures { sign_number result ≡ sign_of a }
     {
-        if a < 0 {
-            CFLSign::CFL_SIGN_NEG
-        } else if a == 0 {
-            CFLSign::CFL_SIGN_ZERO
-        } else {
-            CFLSign::CFL_SIGN_POS
+        match a.cmp(&0) {
+            Ordering::Less => CFLSign::CFL_SIGN_NEG,
+            Ordering::Equal => CFLSign::CFL_SIGN_ZERO,
+            Ordering::Greater => CFLSign::CFL_SIGN_POS,
         }
     }
 
@@ -37,7 +37,7 @@ impl CFLSign {
 pub struct CFLParams {
     u: i32,
     v: i32,
-    ghost allowed: { alphas_allowed (u, v) ≡ true },
+    ghost allowed: { IsTrue (alphas_allowed (u, v)) },
 }
 
 // The context and the symbol of an alpha beside the other.

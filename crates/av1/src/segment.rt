@@ -57,12 +57,14 @@ pub fn neg_deinterleave(d: u8, r: u8, max: u8) -> Option<u8>
 }
 
 /// For any number of segments the inverse undoes the interleaving, and symbols and segments are below that number.
+#[tactic(auto, using(crate::proofs::Segments::segment_back, std::proofs::lemmas::Bool::Decides::nat_tests))]
 pub fn segments_read_back()
     ensures segment_back { SegmentBack }
     ensures segment_within { SegmentWithin }
 {}
 
 /// A symbol above the last segment is exactly one that the inverse puts outside the segments.
+#[tactic(auto, using(std::proofs::lemmas::Bool::Decides::nat_tests))]
 pub fn symbols_above_the_last()
     ensures { SegmentExact }
 {}
