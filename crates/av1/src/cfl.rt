@@ -45,6 +45,7 @@ fn coded(alpha: i32, other: i32) -> Option<(usize, usize)>
     ensures value { result ≡ coded_alpha alpha other }
     ensures within { IfSome result (λ s. (s.0 < 6) × (s.1 < magnitude alpha)) }
 {
+    // A zero's number is 0.
     let sign = CFLSign::from_alpha(alpha).number().checked_sub(1)?;
     let context = 3 * sign + CFLSign::from_alpha(other).number();
     Some((context, alpha.unsigned_abs() as usize - 1))

@@ -32,6 +32,7 @@ fn log_in_base_2(n: u32) -> u8
 }
 
 /// The class of a magnitude less one, and its offset there. The last class has no end.
+// The project needs the pair.
 #[tactic(auto, using(crate::proofs::Classes::class_is, crate::proofs::Classes::base_below))]
 pub fn get_mv_class(z: u32) -> (usize, u32)
     ensures class { result.0 ≡ class_of z }
@@ -44,6 +45,7 @@ pub fn get_mv_class(z: u32) -> (usize, u32)
 }
 
 /// The sign and the magnitude of a component, which lies in -16384..=16384.
+// The project needs components as i32, split into these two.
 pub fn split_component(comp: i32) -> Option<(u32, u32)>
     ensures value { result ≡ (if nat_le (magnitude comp) 16384 then Some (sign_bit comp, magnitude comp) else None) }
     ensures within { IfSome result (λ s. (s.0 < 2) × (s.1 ≤ 16384)) }
@@ -56,6 +58,7 @@ pub fn split_component(comp: i32) -> Option<(u32, u32)>
 }
 
 /// The component that has this sign and magnitude.
+// The sign stays a number: a bool would ask more of callers.
 pub fn join_component(sign: u32, mag: u32) -> Option<i32>
     ensures { result ≡ (if nat_le sign 1 && nat_le mag 16384 then Some (joined sign mag) else None) }
 {

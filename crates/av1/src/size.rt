@@ -29,6 +29,7 @@ pub enum BlockSize {
 }
 
 // The context bytes of each size, above and left: a set bit j says that the side is below 8 × 2^j pixels.
+// The project needs the table as it is.
 const partition_context_lookup: [[u8; 2]; 22] = [
     [31, 31],
     [31, 30],
@@ -149,6 +150,7 @@ impl BlockSize {
     }
 
     /// Whether the block is neither wider nor higher than `other`.
+    // The project needs a named comparison: of two sizes each may have the longer side.
     pub fn fits_in(self, other: BlockSize) -> bool
         ensures { result ≡ fits_in self other }
     {

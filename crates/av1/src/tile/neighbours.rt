@@ -98,6 +98,7 @@ impl Tile {
     }
 
     /// The prediction of a segment, at most `last`, and the number of its table.
+    // The project needs the pair.
     pub fn get_segment_pred(&self, cells: &[Cell], bo: TileBlockOffset, last: u8) -> (u8, usize)
         ensures prediction { result.0 ≡ min (natural (near_segments self.now.cols self.now.rows cells.now segment_prediction bo.x bo.y)) last }
         ensures number { result.1 ≡ near_segments self.now.cols self.now.rows cells.now segment_context bo.x bo.y }
