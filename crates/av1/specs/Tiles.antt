@@ -1,6 +1,6 @@
 -- A tile of columns × rows units: its cells, row by row, the neighbours of a unit, and the cells of a block.
-use Rattle.std.specs.Prelude.{◌≡◌, ℕ, ◌+◌, ◌-◌, ◌*◌, ◌/◌, ◌%◌, ◌<◌, ◌≤◌, min, Bool, true, false, cond, ◌&&◌, List, length, Some, None, Ok, Err, Option, Result, ◌==◌, nat_le, nat_lt, slice_index_or}
-use mir.Val.{bool_byte}
+use Rattle.std.specs.Prelude.{ℕ, ◌+◌, ◌-◌, ◌*◌, ◌/◌, ◌%◌, ◌<◌, ◌≤◌, min, Bool, false, IsTrue, if◌then◌else◌, ◌&&◌, List, length, Some, None, Ok, Err, Option, Result, ◌==◌, nat_le, nat_lt, slice_index_or}
+use Rattle.std.specs.Int.{from_bool}
 use Rattle.av1.specs.declared.refusal.Refusal.{Refusal}
 use Rattle.av1.specs.declared.refusal.Refusal.TheVariants as no
 use Rattle.av1.specs.declared.size.BlockSize.{BlockSize}
@@ -16,28 +16,30 @@ no_cell = record { skip = false; segment = 0 }
 -- 1 for a cell that is there and skipped
 abbrev pub flag_of : Option Cell → ℕ
 flag_of None = 0
-flag_of (Some c) = bool_byte c.skip
+flag_of (Some c) = from_bool c.skip
 
 module _ (columns rows : ℕ) where
   abbrev pub sides_asked : Result (Unit {0}) Refusal
-  sides_asked = cond (side columns && side rows) (Ok tt) (Err no.TileSize)
+  sides_asked = if side columns && side rows then Ok tt else Err no.TileSize
 
   abbrev pub map_asked : ℕ → Result (Unit {0}) Refusal
-  map_asked memory = cond (nat_le (columns * rows) memory) (Ok tt) (Err no.MapMemory)
+  map_asked memory = if nat_le (columns * rows) memory then Ok tt else Err no.MapMemory
 
   -- the cell of a unit; one outside the tile, or outside the memory, is absent
   abbrev pub cell_of : List Cell → ℕ → ℕ → Option Cell
   cell_of cells x y =
-      cond (nat_lt x columns && nat_lt y rows) (cond (nat_lt (y * columns + x) (length cells)) (Some (slice_index_or cells (y * columns + x) no_cell)) None) None
+      if nat_lt x columns && nat_lt y rows
+      then (if nat_lt (y * columns + x) (length cells) then Some (slice_index_or cells (y * columns + x) no_cell) else None)
+      else None
 
   abbrev pub above_of : List Cell → ℕ → ℕ → Option Cell
-  above_of cells x y = cond (nat_lt 0 y) (cell_of cells x (y - 1)) None
+  above_of cells x y = if nat_lt 0 y then cell_of cells x (y - 1) else None
 
   abbrev pub left_of : List Cell → ℕ → ℕ → Option Cell
-  left_of cells x y = cond (nat_lt 0 x) (cell_of cells (x - 1) y) None
+  left_of cells x y = if nat_lt 0 x then cell_of cells (x - 1) y else None
 
   abbrev pub above_left_of : List Cell → ℕ → ℕ → Option Cell
-  above_left_of cells x y = cond (nat_lt 0 x && nat_lt 0 y) (cell_of cells (x - 1) (y - 1)) None
+  above_left_of cells x y = if nat_lt 0 x && nat_lt 0 y then cell_of cells (x - 1) (y - 1) else None
 
   -- the skip flags above and left are counted
   abbrev pub skip_context : List Cell → ℕ → ℕ → ℕ
@@ -52,20 +54,23 @@ module _ (columns rows : ℕ) where
   block_at x y z = record { from = y * columns + x; width = min (width_mi z) (columns - x); height = min (height_mi z) (rows - y) }
 
   abbrev pub placed : ℕ → ℕ → BlockSize → Result Block Refusal
-  placed x y z = cond (in_tile x y z) (Ok (block_at x y z)) (Err no.Position)
+  placed x y z = if in_tile x y z then Ok (block_at x y z) else Err no.Position
 
   -- with the map's memory and the block's sides asked for first
   abbrev pub block_asked : ℕ → ℕ → ℕ → ℕ → BlockSize → Result Block Refusal
   block_asked memory longest x y z =
-      cond (nat_le (columns * rows) memory) (cond (no_side_above longest z) (placed x y z) (Err no.BlockSize)) (Err no.MapMemory)
+      if nat_le (columns * rows) memory
+      then (if no_side_above longest z then placed x y z else Err no.BlockSize)
+      else Err no.MapMemory
 
   -- a square that a partition may split, at a position in the tile
   abbrev pub square_asked : ℕ → ℕ → ℕ → BlockSize → Result (Unit {0}) Refusal
-  square_asked largest x y z = cond (splits largest z) (cond (in_tile x y z) (Ok tt) (Err no.Position)) (Err no.BlockSize)
+  square_asked largest x y z =
+      if splits largest z then (if in_tile x y z then Ok tt else Err no.Position) else Err no.BlockSize
 
   pub record Placed (largest x y : ℕ) (z : BlockSize) : Type 0 where
-    pub square : splits largest z ≡ true
-    pub inside : in_tile x y z ≡ true
+    pub square : IsTrue (splits largest z)
+    pub inside : IsTrue (in_tile x y z)
 
   -- every row of the block lies among the tile's cells
   pub record Inside (b : Block) : Type 0 where

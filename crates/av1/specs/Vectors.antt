@@ -1,5 +1,5 @@
 -- Motion vectors: a component by its sign and magnitude, and a magnitude less one by its class and its offset there.
-use Rattle.std.specs.Prelude.{◌≡◌, ℕ, zero, suc, ◌-◌, ◌*◌, ◌^◌, cond, ℤ, pos, negsuc, neg_ℤ, nat_lt}
+use Rattle.std.specs.Prelude.{◌≡◌, ℕ, zero, suc, ◌-◌, ◌*◌, ◌^◌, if◌then◌else◌, ℤ, pos, negsuc, neg_ℤ, nat_lt}
 
 abbrev pub magnitude : ℤ → ℕ
 magnitude (pos n) = n
@@ -36,7 +36,7 @@ class_base (suc c) = 8 * 2 ^ suc c
 -- the class of a magnitude less one: from class c on, with so many left to try
 abbrev pub class_from : ℕ → ℕ → ℕ → ℕ
 class_from zero c z = c
-class_from (suc n) c z = cond (nat_lt z (8 * 2 ^ suc c)) c (class_from n (suc c) z)
+class_from (suc n) c z = if nat_lt z (8 * 2 ^ suc c) then c else class_from n (suc c) z
 
 unfoldable pub class_of : ℕ → ℕ
 class_of z = class_from 10 0 z

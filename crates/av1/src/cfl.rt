@@ -1,6 +1,8 @@
-ghost use Rattle.std.specs.Prelude.{◌≡◌, ◌+◌, ◌<◌, ◌≤◌, true, [], ◌∷◌, is_some, IfSome, All};
+ghost use Rattle.std.specs.Prelude.{◌≡◌, ◌+◌, ◌<◌, ◌≤◌, IsTrue, [], ◌∷◌, is_some, IfSome, All};
 ghost use Rattle.av1.specs.Alphas.{sign_of, sign_number, alphas_allowed, joint_sign, coded_alpha};
 ghost use Rattle.av1.specs.Vectors.{magnitude, nonzero};
+
+use std::cmp::Ordering;
 
 /// The sign of an alpha.
 #[derive(Clone, Copy, PartialEq, Debug)]
@@ -14,12 +16,10 @@ impl CFLSign {
     pub fn from_alpha(a: i32) -> CFLSign
         ensures { sign_number result ≡ sign_of a }
     {
-        if a < 0 {
-            CFLSign::CFL_SIGN_NEG
-        } else if a == 0 {
-            CFLSign::CFL_SIGN_ZERO
-        } else {
-            CFLSign::CFL_SIGN_POS
+        match a.cmp(&0) {
+            Ordering::Less => CFLSign::CFL_SIGN_NEG,
+            Ordering::Equal => CFLSign::CFL_SIGN_ZERO,
+            Ordering::Greater => CFLSign::CFL_SIGN_POS,
         }
     }
 
@@ -28,11 +28,7 @@ impl CFLSign {
         ensures value { result ≡ sign_number self }
         ensures most { result < 3 }
     {
-        match self {
-            CFLSign::CFL_SIGN_ZERO => 0,
-            CFLSign::CFL_SIGN_NEG => 1,
-            CFLSign::CFL_SIGN_POS => 2,
-        }
+        self as usize
     }
 }
 
@@ -41,7 +37,7 @@ impl CFLSign {
 pub struct CFLParams {
     u: i32,
     v: i32,
-    ghost allowed: { alphas_allowed (u, v) ≡ true },
+    ghost allowed: { IsTrue (alphas_allowed (u, v)) },
 }
 
 // The context and the symbol of an alpha beside the other.
@@ -49,13 +45,10 @@ fn coded(alpha: i32, other: i32) -> Option<(usize, usize)>
     ensures value { result ≡ coded_alpha alpha other }
     ensures within { IfSome result (λ s. (s.0 < 6) × (s.1 < magnitude alpha)) }
 {
-    let sign = CFLSign::from_alpha(alpha).number();
-    if sign == 0 {
-        return None;
-    }
-    let context = (sign - 1) * 3 + CFLSign::from_alpha(other).number();
-    let index = alpha.unsigned_abs() as usize - 1;
-    Some((context, index))
+    // A zero's number is 0.
+    let sign = CFLSign::from_alpha(alpha).number().checked_sub(1)?;
+    let context = 3 * sign + CFLSign::from_alpha(other).number();
+    Some((context, alpha.unsigned_abs() as usize - 1))
 }
 
 impl CFLParams {
@@ -63,7 +56,7 @@ impl CFLParams {
         ensures allowed { is_some result ≡ alphas_allowed (u, v) }
         ensures made { IfSome result (λ p. (p.u ≡ u) × (p.v ≡ v)) }
     {
-        if u < -16 || u > 16 || v < -16 || v > 16 || (u == 0 && v == 0) {
+        if u.unsigned_abs() > 16 || v.unsigned_abs() > 16 || (u == 0 && v == 0) {
             return None;
         }
         Some(CFLParams { u, v })

@@ -22,17 +22,6 @@ impl PartitionType {
         ensures value { result ≡ number self }
         ensures most { result < 10 }
     {
-        match self {
-            PartitionType::PARTITION_NONE => 0,
-            PartitionType::PARTITION_HORZ => 1,
-            PartitionType::PARTITION_VERT => 2,
-            PartitionType::PARTITION_SPLIT => 3,
-            PartitionType::PARTITION_HORZ_A => 4,
-            PartitionType::PARTITION_HORZ_B => 5,
-            PartitionType::PARTITION_VERT_A => 6,
-            PartitionType::PARTITION_VERT_B => 7,
-            PartitionType::PARTITION_HORZ_4 => 8,
-            PartitionType::PARTITION_VERT_4 => 9,
-        }
+        self as usize
     }
 }

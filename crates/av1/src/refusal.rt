@@ -57,6 +57,7 @@ impl Refusal {
     pub fn number(self) -> u8
         ensures { result ≡ number self }
     {
+        // No plainer by `as`, which a variant with data rules out, nor by `From`, which would hold this match.
         match self {
             Refusal::TileSize => 1,
             Refusal::LastSegment => 2,

@@ -1,9 +1,9 @@
-ghost use Rattle.std.specs.Prelude.{◌≡◌, ◌≤◌, ◌&&◌, ltb, if◌then◌else◌, Some, None, nat_lt};
+ghost use Rattle.std.specs.Prelude.{◌≡◌, ◌≤◌, ◌&&◌, if◌then◌else◌, Some, None, nat_lt};
 ghost use Rattle.av1.specs.Segments.{interleaved, deinterleaved, SegmentBack, SegmentWithin, SegmentExact};
 
 /// The symbol of segment `x` with prediction `r`, of `max` segments: the nearer the segment, the smaller the symbol.
 pub fn neg_interleave(x: u8, r: u8, max: u8) -> Option<u8>
-    ensures { result ≡ (if ltb x max then Some (interleaved x r max) else None) }
+    ensures { result ≡ (if nat_lt x max then Some (interleaved x r max) else None) }
 {
     if x >= max {
         return None;
@@ -14,7 +14,7 @@ pub fn neg_interleave(x: u8, r: u8, max: u8) -> Option<u8>
     if r >= max - 1 {
         return Some(max - x - 1);
     }
-    let distance = if x > r { x - r } else { r - x };
+    let distance = x.abs_diff(r);
     if r < max - r {
         if distance > r {
             return Some(x);
@@ -31,7 +31,7 @@ pub fn neg_interleave(x: u8, r: u8, max: u8) -> Option<u8>
 
 /// The segment of symbol `d` with prediction `r`, of `max` segments.
 pub fn neg_deinterleave(d: u8, r: u8, max: u8) -> Option<u8>
-    ensures { result ≡ (if ltb d max && nat_lt r max then Some (deinterleaved d r max) else None) }
+    ensures { result ≡ (if nat_lt d max && nat_lt r max then Some (deinterleaved d r max) else None) }
 {
     if d >= max || r >= max {
         return None;
@@ -57,16 +57,14 @@ pub fn neg_deinterleave(d: u8, r: u8, max: u8) -> Option<u8>
 }
 
 /// For any number of segments the inverse undoes the interleaving, and symbols and segments are below that number.
-pub fn segments_read_back() -> u8
+#[tactic(auto, using(crate::proofs::Segments::segment_back, std::proofs::lemmas::Bool::Decides::nat_tests))]
+pub fn segments_read_back()
     ensures segment_back { SegmentBack }
     ensures segment_within { SegmentWithin }
-{
-    0
-}
+{}
 
 /// A symbol above the last segment is exactly one that the inverse puts outside the segments.
-pub fn symbols_above_the_last() -> u8
+#[tactic(auto, using(std::proofs::lemmas::Bool::Decides::nat_tests))]
+pub fn symbols_above_the_last()
     ensures { SegmentExact }
-{
-    0
-}
+{}

@@ -29,6 +29,7 @@ pub enum BlockSize {
 }
 
 // The context bytes of each size, above and left: a set bit j says that the side is below 8 × 2^j pixels.
+// The project needs the table as it is.
 const partition_context_lookup: [[u8; 2]; 22] = [
     [31, 31],
     [31, 30],
@@ -55,11 +56,9 @@ const partition_context_lookup: [[u8; 2]; 22] = [
 ];
 
 /// The whole table is the rule of the bytes, at every size in order.
-pub fn lookup_follows_the_rule() -> u8
+pub fn lookup_follows_the_rule()
     ensures { partition_context_lookup ≡ map context_bytes all_sizes }
-{
-    0
-}
+{}
 
 impl BlockSize {
     pub fn width_log2(self) -> usize
@@ -151,6 +150,7 @@ impl BlockSize {
     }
 
     /// Whether the block is neither wider nor higher than `other`.
+    // The project needs a named comparison: of two sizes each may have the longer side.
     pub fn fits_in(self, other: BlockSize) -> bool
         ensures { result ≡ fits_in self other }
     {
@@ -168,15 +168,14 @@ impl BlockSize {
     pub fn splits(self, largest: usize) -> bool
         ensures { result ≡ splits largest self }
     {
-        let width = self.width();
-        self.is_sqr() && 8 <= width && width <= largest
+        self.is_sqr() && (8..=largest).contains(&self.width())
     }
 
     /// The bytes that the block leaves in the contexts above and left.
     pub fn context_bytes(self) -> (u8, u8)
         ensures { result ≡ (above_byte self, left_byte self) }
     {
-        let bytes = partition_context_lookup[self as usize];
-        (bytes[0], bytes[1])
+        let [above, left] = partition_context_lookup[self as usize];
+        (above, left)
     }
 }

@@ -1,4 +1,4 @@
-ghost use Rattle.std.specs.Prelude.{◌≡◌, true};
+ghost use Rattle.std.specs.Prelude.{IsTrue};
 ghost use Rattle.av1.specs.Sides.{side};
 
 mod blocks;
@@ -31,6 +31,6 @@ pub struct Block {
 pub struct Tile {
     cols: usize,
     rows: usize,
-    ghost wide: { side cols ≡ true },
-    ghost high: { side rows ≡ true },
+    ghost wide: { IsTrue (side cols) },
+    ghost high: { IsTrue (side rows) },
 }

@@ -1,10 +1,18 @@
 ghost use Rattle.std.specs.Prelude.{◌≡◌, ◌*◌, ◌≤◌, IfOk, OnOk};
 ghost use Rattle.av1.specs.Refusals.{verdict};
+ghost use Rattle.av1.specs.Sides.{side};
 ghost use Rattle.av1.specs.Tiles.{sides_asked, map_asked, placed, block_asked, square_asked, has_rows, has_columns, Inside, Placed};
 
 use crate::refusal::Refusal;
 use crate::size::BlockSize;
 use crate::tile::{Block, Tile, TileBlockOffset};
+
+// Sides are even, in 2..=1024.
+fn is_side(n: usize) -> bool
+    ensures { result ≡ side n }
+{
+    n % 2 == 0 && (2..=1024).contains(&n)
+}
 
 impl Tile {
     /// A tile of `cols` × `rows` units.
@@ -12,7 +20,7 @@ impl Tile {
         ensures asked { verdict result ≡ sides_asked cols rows }
         ensures made { IfOk result (λ t. (t.cols ≡ cols) × (t.rows ≡ rows)) }
     {
-        if cols % 2 != 0 || cols < 2 || cols > 1024 || rows % 2 != 0 || rows < 2 || rows > 1024 {
+        if !is_side(cols) || !is_side(rows) {
             return Err(Refusal::TileSize);
         }
         Ok(Tile { cols, rows })
@@ -49,6 +57,7 @@ impl Tile {
     }
 
     /// The cells of a block at a position, which has to lie in the tile, at multiples of the block's sides.
+    #[tactic(auto, using(crate::proofs::Placing::inside_block))]
     pub fn place(&self, bo: TileBlockOffset, bsize: BlockSize) -> Result<Block, Refusal>
         ensures answer { result ≡ placed self.now.cols self.now.rows bo.x bo.y bsize }
         ensures inside { IfOk result (λ b. Inside self.now.cols self.now.rows b) }
@@ -78,9 +87,7 @@ impl Tile {
         ensures inside { IfOk result (λ b. Inside self.now.cols self.now.rows b) }
         ensures mapped { OnOk result (self.now.cols * self.now.rows ≤ memory) }
     {
-        if memory < self.units() {
-            return Err(Refusal::MapMemory);
-        }
+        self.ask_map(memory)?;
         if !bsize.has_no_side_above(longest) {
             return Err(Refusal::BlockSize);
         }
@@ -100,25 +107,21 @@ impl Tile {
         if !bsize.splits(largest) {
             return Err(Refusal::BlockSize);
         }
-        match self.place(bo, bsize) {
-            Ok(_) => Ok(()),
-            Err(refusal) => Err(refusal),
-        }
+        self.place(bo, bsize)?;
+        Ok(())
     }
 
     /// Whether the lower half of a block at row `y` has rows in the tile.
     pub fn has_rows(&self, y: usize, bsize: BlockSize) -> bool
         ensures { result ≡ has_rows self.now.rows y bsize }
     {
-        let half = bsize.height_mi() / 2;
-        y < self.rows && half < self.rows - y
+        bsize.height_mi() / 2 < self.rows.saturating_sub(y)
     }
 
     /// Whether the right half of a block at column `x` has columns in the tile.
     pub fn has_cols(&self, x: usize, bsize: BlockSize) -> bool
         ensures { result ≡ has_columns self.now.cols x bsize }
     {
-        let half = bsize.width_mi() / 2;
-        x < self.cols && half < self.cols - x
+        bsize.width_mi() / 2 < self.cols.saturating_sub(x)
     }
 }

@@ -9,21 +9,14 @@ fn skip_flag(cell: Option<Cell>) -> usize
     ensures value { result ≡ flag_of cell }
     ensures most { result ≤ 1 }
 {
-    let Some(cell) = cell else {
-        return 0;
-    };
-    cell.skip as usize
+    usize::from(cell.is_some_and(|cell| cell.skip))
 }
 
 // Whether two neighbours have one segment; two absent ones do.
 fn same_segment(a: Option<Cell>, b: Option<Cell>) -> bool
     ensures { result ≡ same (prev a) (prev b) }
 {
-    match (a, b) {
-        (Some(a), Some(b)) => a.segment == b.segment,
-        (None, None) => true,
-        _ => false,
-    }
+    a.map(|cell| cell.segment) == b.map(|cell| cell.segment)
 }
 
 // The number of a segment's table, by how many of the neighbours have one segment.
@@ -49,19 +42,16 @@ fn segment_context(above_left: Option<Cell>, above: Option<Cell>, left: Option<C
 fn segment_prediction(above_left: Option<Cell>, above: Option<Cell>, left: Option<Cell>) -> u8
     ensures { result ≡ natural (segment_prediction (prev above_left) (prev above) (prev left)) }
 {
-    let Some(up) = above else {
-        let Some(beside) = left else {
-            return 0;
-        };
-        return beside.segment;
-    };
-    let Some(beside) = left else {
-        return up.segment;
-    };
-    if same_segment(above_left, above) {
-        up.segment
-    } else {
-        beside.segment
+    match (above, left) {
+        (Some(up), Some(beside)) => {
+            if same_segment(above_left, above) {
+                up.segment
+            } else {
+                beside.segment
+            }
+        }
+        (Some(only), None) | (None, Some(only)) => only.segment,
+        (None, None) => 0,
     }
 }
 
@@ -108,6 +98,7 @@ impl Tile {
     }
 
     /// The prediction of a segment, at most `last`, and the number of its table.
+    // The project needs the pair.
     pub fn get_segment_pred(&self, cells: &[Cell], bo: TileBlockOffset, last: u8) -> (u8, usize)
         ensures prediction { result.0 ≡ min (natural (near_segments self.now.cols self.now.rows cells.now segment_prediction bo.x bo.y)) last }
         ensures number { result.1 ≡ near_segments self.now.cols self.now.rows cells.now segment_context bo.x bo.y }
