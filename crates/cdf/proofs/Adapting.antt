@@ -1,23 +1,23 @@
 -- A symbol leaves a lawful table lawful, whatever its number of symbols.
-use Rattle.std.proofs.Common.{◌≡◌, ℕ, zero, suc, ◌+◌, ◌-◌, ◌*◌, ◌/◌, ◌^◌, ◌<◌, ◌≤◌, min, Bool, true, false, cond, T, eqb, ltb, List, [], ◌∷◌, length, get_or, set, sym, refl, ap, ◌∙◌, subst, ap₂, div-lt_iff_lt-mul, add-mul, mul-le-mul_left, one-mul, div-le_self, arith, eqb→eq, ltb→lt, lt→ltb, ext_get_or, pow_pos, pow_mono}
-use native.Mathlib.Decide.{ℕ_discrete, dec_le}
+use Rattle.std.proofs.Common.{◌≡◌, ℕ, zero, suc, ◌+◌, ◌-◌, ◌*◌, ◌/◌, ◌^◌, ◌<◌, ◌≤◌, Bool, true, false, cond, T, eqb, ltb, ◌⊎◌, List, [], ◌∷◌, ◌++◌, length, get_or, length-append, add-zero, zero-add, sym, refl, ap, ◌∙◌, subst, ap₂, inl, inr, div-lt_iff_lt-mul, add-mul, mul-le-mul_left, one-mul, div-le_self, arith, eqb→eq, ltb→lt, lt→ltb, ext_get_or, pow_pos, pow_mono}
+use native.Mathlib.Decide.{ℕ_discrete}
+use Rattle.std.proofs.lemmas.Bool.{cases_lt, lt-ltb, le-ltb}
 use native.Mathlib.Nat.{div-eq_of_lt, lt-div-mul-add}
 use lib.Dec.{eqb_refl}
 use Rattle.std.proofs.lemmas.List.{length-set, get_or-set_same, get_or-set_other}
 use Rattle.cdf.proofs.Booleans.{T→true, not-T→false, same_test}
-use Rattle.cdf.specs.Words.{moved, counted, moved_from, adapted, rate, Descends, TableStaysLawful}
+use Rattle.cdf.specs.Words.{moved, counted, moved_from, adapted, rate, Descends, LawfulTable, TableStaysLawful}
+use Rattle.std.proofs.lemmas.Grind.{common_steps}
 
 -- a value of 16 bits is 0 after any shift by 16 or more
-pub shift_capped : (v r : ℕ) → v < 65536 → v / 2 ^ min r 16 ≡ v / 2 ^ r
-shift_capped v r h = go (dec_le r 16)
+pub shifted : (v r : ℕ) → v < 65536 → cond (ltb r 16) (v / 2 ^ r) 0 ≡ v / 2 ^ r
+shifted v r h = go (cases_lt r 16)
   where
-    go : Dec (r ≤ 16) → v / 2 ^ min r 16 ≡ v / 2 ^ r
-    go (yes l) = let e : min r 16 ≡ r = omega arith in ap (λ k. v / 2 ^ k) e
-    go (no l) =
-        let e : min r 16 ≡ 16 = omega arith in
-        let m : 2 ^ 16 ≤ 2 ^ r = pow_mono (let k : 16 ≤ r = omega arith in k) in
-        let below : v < 2 ^ r = omega (arith, m) in
-        ap (λ k. v / 2 ^ k) e ∙ div-eq_of_lt h ∙ sym (div-eq_of_lt below)
+    go : (r < 16) ⊎ (16 ≤ r) → cond (ltb r 16) (v / 2 ^ r) 0 ≡ v / 2 ^ r
+    go (inl l) = ap (λ b. cond b (v / 2 ^ r) 0) (lt-ltb r 16 l)
+    go (inr l) =
+        let m : 2 ^ 16 ≤ 2 ^ r = pow_mono l in
+        ap (λ b. cond b (v / 2 ^ r) 0) (le-ltb r 16 l) ∙ sym (div-eq_of_lt (let below : v < 2 ^ r = omega (arith, m) in below))
 
 -- a quotient grows no faster than what is divided
 div_step : (a e k : ℕ) → 0 < k → (a + e) / k ≤ a / k + e
@@ -87,70 +87,35 @@ length_moved rate s i [] = refl
 length_moved rate s i (c ∷ []) = refl
 length_moved rate s i (v ∷ x ∷ xs) = ap suc (length_moved rate s (suc i) (x ∷ xs))
 
--- a table's words after a symbol, one by one
-moved_at : (r s : ℕ) (vs : List ℕ) (from i : ℕ) → i < length vs → get_or (moved_from r s from vs) i 0 ≡ cond (eqb (i + 1) (length vs)) (counted (get_or vs i 0)) (moved r (ltb (from + i) s) (get_or vs i 0))
-moved_at r s [] from i h = absurd (omega arith)
-moved_at r s (c ∷ []) from zero h = refl
-moved_at r s (c ∷ []) from (suc i) h = absurd (omega arith)
-moved_at r s (v ∷ x ∷ xs) from zero h =
-    ap (λ k. moved r (ltb k s) v) here ∙ sym (ap (λ b. cond b (counted v) (moved r (ltb (from + 0) s) v)) (not-T→false (eqb 1 (suc (suc (length xs)))) (λ t. let e : 1 ≡ suc (suc (length xs)) = eqb→eq 1 (suc (suc (length xs))) t in omega arith)))
+moved_more : (r s i v c : ℕ) (vs : List ℕ) → moved_from r s i (v ∷ (vs ++ c ∷ [])) ≡ moved r (ltb i s) v ∷ moved_from r s (suc i) (vs ++ c ∷ [])
+moved_more r s i v c [] = refl
+moved_more r s i v c (x ∷ xs) = refl
+
+-- each value moved, and then the counter
+moved_by : (r s i c : ℕ) (vs us : List ℕ) → length us ≡ length vs → ((k : ℕ) → k < length vs → get_or us k 0 ≡ moved r (ltb (i + k) s) (get_or vs k 0))
+    → us ++ counted c ∷ [] ≡ moved_from r s i (vs ++ c ∷ [])
+moved_by r s i c [] [] long body = refl
+moved_by r s i c [] (u ∷ us) long body = absurd (omega arith)
+moved_by r s i c (v ∷ vs) [] long body = absurd (omega arith)
+moved_by r s i c (v ∷ vs) (u ∷ us) long body =
+    ap₂ ◌∷◌ first (moved_by r s (suc i) c vs us (omega arith) (λ k h. next k h)) ∙ sym (moved_more r s i v c vs)
   where
-    here : from ≡ from + 0
-    here = omega arith
-moved_at r s (v ∷ x ∷ xs) from (suc i) h =
-    moved_at r s (x ∷ xs) (suc from) i (omega arith)
-    ∙ ap₂ (λ b k. cond b (counted (get_or (x ∷ xs) i 0)) (moved r (ltb k s) (get_or (x ∷ xs) i 0))) (same_eqb (i + 1) (suc (length xs)) (suc i + 1) (suc (suc (length xs))) (omega arith) (omega arith)) (next i)
+    first : u ≡ moved r (ltb i s) v
+    first = body 0 (omega arith) ∙ ap (λ n. moved r (ltb n s) v) (add-zero i)
+
+    next : (k : ℕ) → k < length vs → get_or us k 0 ≡ moved r (ltb (suc i + k) s) (get_or vs k 0)
+    next k h = let e : i + suc k ≡ suc i + k = omega arith in body (suc k) (omega arith) ∙ ap (λ n. moved r (ltb n s) (get_or vs k 0)) e
+
+-- so a table becomes the adapted one
+pub adapts : (t vs us : List ℕ) (s c w r : ℕ) → t ≡ vs ++ c ∷ [] → w ≡ counted c → r ≡ rate (length t) c → length us ≡ length vs
+    → ((k : ℕ) → k < length vs → get_or us k 0 ≡ moved r (ltb k s) (get_or vs k 0))
+    → (us ++ w ∷ [] ≡ adapted (length t) t s) × (LawfulTable t → LawfulTable (us ++ w ∷ []))
+adapts t vs us s c w r is counter by long body = (words, λ h. subst LawfulTable (sym words) (table_stays_lawful (length t) t s h))
   where
-    next : (i : ℕ) → suc from + i ≡ from + suc i
-    next i = omega arith
+    last : get_or t (length t - 1) 0 ≡ c
+    last = grind (arith, common_steps, length-append {A = ℕ})
 
-    same_eqb : (a b c d : ℕ) → c ≡ suc a → d ≡ suc b → eqb a b ≡ eqb c d
-    same_eqb a b c d p q = same_test (eqb a b) (eqb c d)
-        (λ t. let e : a ≡ b = eqb→eq a b t in let f : d ≡ c = omega arith in subst (λ z. T (eqb c z)) (sym f) (eqb_refl c))
-        (λ t. let e : c ≡ d = eqb→eq c d t in let f : b ≡ a = omega arith in subst (λ z. T (eqb a z)) (sym f) (eqb_refl a))
-
-pub adapted_at : (vs : List ℕ) (s i : ℕ) → i < length vs
-    → get_or (adapted (length vs) vs s) i 0
-    ≡ cond (eqb (i + 1) (length vs)) (counted (get_or vs i 0)) (moved (rate (length vs) (get_or vs (length vs - 1) 0)) (ltb i s) (get_or vs i 0))
-adapted_at vs s i h =
-    moved_at (rate (length vs) (get_or vs (length vs - 1) 0)) s vs 0 i h
-    ∙ ap (λ k. cond (eqb (i + 1) (length vs)) (counted (get_or vs i 0)) (moved (rate (length vs) (get_or vs (length vs - 1) 0)) (ltb k s) (get_or vs i 0))) zero_add
-  where
-    zero_add : 0 + i ≡ i
-    zero_add = omega arith
-
--- a table of which each value is moved and the counter set is the adapted one
-pub adapted_by : (s : ℕ) (t u : List ℕ) (w : ℕ) → 0 < length t → length u ≡ length t
-    → ((k : ℕ) → k < length t - 1 → get_or u k 0 ≡ moved (rate (length t) (get_or t (length t - 1) 0)) (ltb k s) (get_or t k 0))
-    → w ≡ counted (get_or t (length t - 1) 0)
-    → set u (length t - 1) w ≡ adapted (length t) t s
-adapted_by s t u w some len body top =
-    ext_get_or 0 (set u (length t - 1) w) (adapted (length t) t s) (length-set u (length t - 1) w ∙ len ∙ sym (length_moved r s 0 t)) at
-  where
-    r : ℕ
-    r = rate (length t) (get_or t (length t - 1) 0)
-
-    one : (k : ℕ) → k < length t → Dec (k + 1 ≡ length t) → get_or (set u (length t - 1) w) k 0 ≡ cond (eqb (k + 1) (length t)) (counted (get_or t k 0)) (moved r (ltb k s) (get_or t k 0))
-    one k h (yes e) =
-        ap (λ x. get_or (set u (length t - 1) w) x 0) last ∙ get_or-set_same u (length t - 1) w 0 (omega arith) ∙ top ∙ ap (λ x. counted (get_or t x 0)) (sym last)
-        ∙ sym (ap (λ b. cond b (counted (get_or t k 0)) (moved r (ltb k s) (get_or t k 0))) (T→true (eqb (k + 1) (length t)) (subst (λ x. T (eqb (k + 1) x)) e (eqb_refl (k + 1)))))
-      where
-        last : k ≡ length t - 1
-        last = omega arith
-    one k h (no e) =
-        get_or-set_other u (length t - 1) k w 0 (omega arith) ∙ body k (omega arith)
-        ∙ sym (ap (λ b. cond b (counted (get_or t k 0)) (moved r (ltb k s) (get_or t k 0))) (not-T→false (eqb (k + 1) (length t)) (λ x. e (eqb→eq (k + 1) (length t) x))))
-
-    at : (k : ℕ) → k < length (set u (length t - 1) w) → get_or (set u (length t - 1) w) k 0 ≡ get_or (adapted (length t) t s) k 0
-    at k h =
-        let l : length (set u (length t - 1) w) ≡ length u = length-set u (length t - 1) w in
-        let m : k < length t = omega (arith, l, len) in
-        one k m (ℕ_discrete (k + 1) (length t)) ∙ sym (adapted_at t s k m)
-
-pub adapted_none : (t : List ℕ) (s : ℕ) → length t ≡ 0 → t ≡ adapted (length t) t s
-adapted_none [] s h = refl
-adapted_none (v ∷ vs) s h = absurd (omega arith)
-
--- the quotients of a value, with the shift capped
-pub moved_capped : (v r : ℕ) → v < 65536 → (v + (32768 - v) / 2 ^ min r 16 ≡ v + (32768 - v) / 2 ^ r) × (v - v / 2 ^ min r 16 ≡ v - v / 2 ^ r)
-moved_capped v r h = (ap (λ q. v + q) (shift_capped (32768 - v) r (omega arith)), ap (λ q. v - q) (shift_capped v r h))
+    words : us ++ w ∷ [] ≡ adapted (length t) t s
+    words =
+        ap (λ x. us ++ x ∷ []) counter ∙ moved_by r s 0 c vs us long (λ k h. body k h ∙ ap (λ n. moved r (ltb n s) (get_or vs k 0)) (sym (zero-add k)))
+        ∙ ap₂ (λ x l. moved_from x s 0 l) (by ∙ ap (rate (length t)) (sym last)) (sym is)

@@ -4,7 +4,7 @@ use mathlib.Core.Bool.{Bool-set}
 use mathlib.Core.HLevel.{is_prop→PathP}
 use native.Mathlib.Nat.{ℕ_set}
 use Rattle.cdf.specs.declared.tables.Tables.{Tables}
-use Rattle.cdf.specs.Layout.{lawful}
+use Rattle.cdf.specs.Layout.{lawful, SoundWords}
 
 pub same_words : (t u : Tables) → t.words ≡ u.words → t ≡ u
 same_words t u e =
@@ -13,3 +13,7 @@ same_words t u e =
       long = is_prop→PathP (λ j. length (e j) ≡ 430) (λ j. ℕ_set (length (e j)) 430) t.long u.long i;
       fits = is_prop→PathP (λ j. lawful (e j) ≡ true) (λ j. Bool-set (lawful (e j)) true) t.fits u.fits i;
     }
+
+-- the words of tables are sound
+pub sound_of : (t : Tables) → SoundWords t.words
+sound_of t = record { number = t.long; fits = t.fits }

@@ -1,8 +1,11 @@
 -- Whether words stay lawful with a window put in is seen at the window and the word behind it.
-use Rattle.std.proofs.Common.{◌≡◌, ℕ, zero, suc, ◌+◌, ◌-◌, ◌<◌, ◌≤◌, min, Bool, true, cond, ◌&&◌, ◌⊎◌, List, ◌++◌, length, get_or, take, drop, sym, refl, ap, ◌∙◌, subst, ap₂, inl, inr, arith, le→leb}
+use Rattle.std.proofs.Common.{◌≡◌, ℕ, zero, suc, ◌+◌, ◌-◌, ◌<◌, ◌≤◌, min, Bool, true, IsTrue, Option, Some, None, MatchOption, unwrap_or, slice_get, cond, ◌&&◌, ◌⊎◌, List, ◌++◌, length, get_or, take, drop, sym, refl, ap, ◌∙◌, subst, ap₂, inl, inr, arith, le→leb}
 use borrow.Rule.Slice.PartMut.{put_mid}
 use lib.Seq.{sets, length-sets}
-use Rattle.std.proofs.lemmas.List.{drop-drop}
+use Rattle.std.specs.Slice.{IsItemAt}
+use Rattle.std.specs.Borrow.{Bor}
+use Rattle.std.proofs.lemmas.Option.{unwrap_or-slice_get}
+use Rattle.std.proofs.lemmas.List.{drop-drop, get_or-take, length-take}
 use Rattle.cdf.specs.Layout.{lawful, words_in_all, SoundWords}
 use Rattle.cdf.specs.Limits.{limits, keeps_to, word_before, fits_at, all_from}
 use Rattle.cdf.specs.Words.{Words}
@@ -40,6 +43,15 @@ window_lawful w first us s h =
 abbrev pub left_to_test : Words → ℕ → ℕ → ℕ → Bool
 left_to_test v first n k = all_from (fits_at v) k (window_end first n - k)
 
+-- the last of the words before word k
+pub last_before : (w : Words) (k : ℕ) → k ≤ length w → unwrap_or (slice_get (take k w) (length (take k w) - 1)) 0 ≡ word_before w k
+last_before w zero h = refl
+last_before w (suc k) h =
+    unwrap_or-slice_get (take (suc k) w) (length (take (suc k) w) - 1) 0 ∙ ap (λ i. get_or (take (suc k) w) i 0) last ∙ get_or-take (suc k) w k 0 (omega arith)
+  where
+    last : length (take (suc k) w) - 1 ≡ k
+    last = simp length-take (omega arith)
+
 module _ (w : Words) (first : ℕ) (us : List ℕ) (s : SoundWords w) (h : first + length us ≤ words_in_all) where
   abbrev put : Words
   put = sets w first us
@@ -51,41 +63,37 @@ module _ (w : Words) (first : ℕ) (us : List ℕ) (s : SoundWords w) (h : first
   pub all_left : lawful put ≡ left_to_test put first (length us) (first + 0)
   all_left = let e : first ≡ first + 0 = omega arith in window_lawful w first us s h ∙ ap (left_to_test put first (length us)) e
 
-  pub before_first : (b : ℕ) → b ≡ word_before w first → b ≡ word_before put (first + 0)
-  before_first b e =
-      let z : first ≡ first + 0 = omega arith in
-      e ∙ sym (go first (omega arith)) ∙ ap (word_before put) z
+  pub before_first : word_before w first ≡ word_before put (first + 0)
+  before_first = let z : first ≡ first + 0 = omega arith in sym (go first (omega arith)) ∙ ap (word_before put) z
     where
       go : (k : ℕ) → k ≤ first → word_before put k ≡ word_before w k
       go zero l = refl
       go (suc k) l = getD_sets_out us w first k (inl (omega arith))
 
   -- at a word of the window
-  pub word_left : (i b : ℕ) (r : Bool) → i < length us → b ≡ word_before put (first + i) → r ≡ keeps_to (get_or limits (first + i) 0) b (get_or us i 0)
+  pub word_left : (i b : ℕ) (r : Bool) → i < length us → b ≡ word_before put (first + i) → keeps_to (get_or limits (first + i) 0) b (get_or us i 0) ≡ r
       → left_to_test put first (length us) (first + i) ≡ (r && left_to_test put first (length us) (first + (i + 1)))
   word_left i b r l before fits =
       let next : suc (first + i) ≡ first + (i + 1) = omega arith in
       all_step (fits_at put) (first + i) (window_end first (length us)) (omega arith)
       ∙ ap₂ (λ x k. x && left_to_test put first (length us) k)
-      (ap₂ (λ x y. keeps_to (get_or limits (first + i) 0) x y) (sym before) (getD_sets_in us w first i inside l) ∙ sym fits) next
+      (ap₂ (λ x y. keeps_to (get_or limits (first + i) 0) x y) (sym before) (getD_sets_in us w first i inside l) ∙ fits) next
 
   pub before_next : (i : ℕ) → i < length us → get_or us i 0 ≡ word_before put (first + (i + 1))
   before_next i l = let next : suc (first + i) ≡ first + (i + 1) = omega arith in sym (getD_sets_in us w first i inside l) ∙ ap (word_before put) next
 
-  -- at the word behind it
-  pub behind_left : (i b : ℕ) (r : Bool) → i ≡ length us → first + length us < words_in_all → b ≡ word_before put (first + i)
-      → r ≡ keeps_to (get_or limits (first + length us) 0) b (get_or w (first + length us) 0) → left_to_test put first (length us) (first + i) ≡ r
-  behind_left i b r e l before fits =
+  -- at the word behind it, where there is one
+  pub behind_left : (i b : ℕ) (r : Bool) (o : Option (Bor ℕ)) → i ≡ length us → b ≡ word_before put (first + i) → IsItemAt w (first + length us) o
+      → MatchOption o (IsTrue r) (λ x. r ≡ keeps_to (get_or limits (first + length us) 0) b x.now) → left_to_test put first (length us) (first + i) ≡ r
+  behind_left i b r None e before at fits = all_none (fits_at put) (first + i) (window_end first (length us)) (omega (arith, at.3, s.number)) ∙ sym fits
+  behind_left i b r (Some x) e before at fits =
       let k : ℕ = first + length us in
       ap (λ j. left_to_test put first (length us) (first + j)) e
-      ∙ all_step (fits_at put) k (window_end first (length us)) (omega arith)
+      ∙ all_step (fits_at put) k (window_end first (length us)) (omega (arith, at.3, s.number))
       ∙ ap₂ (λ x y. x && y)
-      (ap₂ (λ x y. keeps_to (get_or limits k 0) x y) (sym (before ∙ ap (λ j. word_before put (first + j)) e)) (getD_sets_out us w first k (inr (omega arith))) ∙ sym fits)
+      (ap₂ (λ x y. keeps_to (get_or limits k 0) x y) (sym (before ∙ ap (λ j. word_before put (first + j)) e)) (getD_sets_out us w first k (inr (omega arith)) ∙ sym (at.4 (omega arith) 0)) ∙ sym fits)
       (all_none (fits_at put) (suc k) (window_end first (length us)) (omega arith))
       ∙ and_true r
-
-  pub none_left : (i : ℕ) → i ≡ length us → words_in_all ≤ first + length us → left_to_test put first (length us) (first + i) ≡ true
-  none_left i e l = all_none (fits_at put) (first + i) (window_end first (length us)) (omega arith)
 
   -- what the copy of a window leaves; k is the length that the checker writes for the part: first + n - first
   pub copied : (k : ℕ) (ys : List ℕ) → lawful put ≡ true → ys ≡ us → k ≡ length us → put_mid first k w ys ≡ put_window first us w

@@ -23,11 +23,7 @@ const TABLE_SIZES: [u8; 430] = [
 fn table_size(first: usize) -> usize
     ensures { result ≡ slice_index table_sizes first }
 {
-    if first < 430 {
-        TABLE_SIZES[first] as usize
-    } else {
-        0
-    }
+    usize::from(TABLE_SIZES.get(first).copied().unwrap_or(0))
 }
 
 // Whether the layout has a table of `n` symbols at word `first`.

@@ -1,8 +1,11 @@
 ghost use Rattle.std.specs.Prelude.{◌≡◌, ◌<◌, slice_index};
 ghost use Rattle.cdf.specs.Limits.{limits, keeps_to};
 
+// A limit that stands for the word before.
+const AS_BEFORE: u16 = 65535;
+
 // The most that each word may be: 32768 for a table's first value, 32 for a counter, 0 for a filler, and 65535 for a
-// later value, which is at most the word before it.
+// later value, which is at most the word before it. Numbers, not options: a constant of 430 options does not prove.
 const LIMITS: [u16; 430] = [
     32768, 32, 32768, 32, 32768, 32, 32768, 65535, 65535, 32, 32768, 65535, 65535, 32, 32768,
     65535, 65535, 32, 32768, 65535, 65535, 32, 32768, 65535, 65535, 65535, 65535, 65535, 65535, 32,
@@ -35,19 +38,15 @@ const LIMITS: [u16; 430] = [
     32768, 65535, 65535, 65535, 65535, 65535, 65535, 65535, 65535, 65535, 32, 0, 0, 0, 0, 0,
 ];
 
-fn limit(k: usize) -> u16
-    requires { k < 430 }
-    ensures { result ≡ slice_index limits k }
-{
-    LIMITS[k]
-}
-
 // Whether `word` may stand at word `k`, behind `before`.
+#[tactic(auto, unfolding(crate::specs::Limits::limits))]
 pub(crate) fn word_fits(k: usize, before: u16, word: u16) -> bool
     requires { k < 430 }
     ensures { result ≡ keeps_to (slice_index limits k) before word }
 {
-    let limit = limit(k);
-    let most = if limit == 65535 { before } else { limit };
+    let most = match LIMITS[k] {
+        AS_BEFORE => before,
+        limit => limit,
+    };
     word <= most
 }
