@@ -24,12 +24,18 @@ pub enum Spot {
     Left { at: u8, was: u8 },
 }
 
-/// The moment at which a trial was opened: the records in use in each lane, and the entries in the sink.
-#[derive(Clone, Copy)]
-pub struct Mark {
+/// A number of undo records for each lane.
+#[derive(Clone, Copy, PartialEq, Debug, Default)]
+pub struct Counts {
     pub small: usize,
     pub large: usize,
     pub spots: usize,
+}
+
+/// The moment at which a trial was opened: the records in use in each lane, and the entries in the sink.
+#[derive(Clone, Copy, PartialEq, Debug, Default)]
+pub struct Mark {
+    pub used: Counts,
     pub entries: usize,
 }
 
