@@ -10,14 +10,14 @@ pub use crate::walk::{UndoRecord, undo};
 use av1::Cell;
 
 /// What `W` words from word `first` on were before a symbol adapted a table among them.
-#[derive(Clone, Copy)]
+#[derive(Clone, Copy, PartialEq, Debug)]
 pub struct Window<const W: usize> {
     pub first: u16,
     pub words: [u16; W],
 }
 
 /// What a cell or a context byte was before it was set.
-#[derive(Clone, Copy)]
+#[derive(Clone, Copy, PartialEq, Debug)]
 pub enum Spot {
     Cell { at: u32, was: Cell },
     Above { at: u16, was: u8 },
