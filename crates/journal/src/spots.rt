@@ -43,7 +43,7 @@ impl<'a> UndoRecord<Places<'a>> for Spot {
 }
 
 /// Puts back the spots of a lane as `undo` does, into bytes and cells that are lent one by one.
-// No `Places` is taken instead: each caller would have to prove that the references in it still name the same memory.
+// Not one `Places`: each caller would then have to prove that the references in it still name the memory they did.
 pub fn undo_spots(
     lane: &[Spot],
     from: usize,
