@@ -1,14 +1,9 @@
 -- Walks over the places, seen in plain lists.
-use Rattle.std.proofs.Common.{◌≡◌, ℕ, List, [], ◌∷◌, refl, ap}
-use Rattle.cdf.specs.declared.tables.Tables.{Tables}
-use Rattle.cdf.specs.Windows.{put_window}
-use Rattle.cdf.specs.Words.{Words}
+use Rattle.std.proofs.Common.{◌≡◌, List, [], ◌∷◌, refl, ap}
 use Rattle.journal.specs.declared.Spot.{Spot}
-use Rattle.journal.specs.declared.Window.{Window}
 use Rattle.journal.specs.declared.spots.Places.{Places}
 use Rattle.journal.specs.Spots.{area_of, with_area, put_area, put_places}
 use Rattle.journal.specs.Walks.{undone}
-use Rattle.journal.specs.Windows.{put_tables}
 
 -- the places after a walk over spots: the same, with another area in them
 pub places_walk : (rs : List Spot) (p : Places) → undone put_places rs p ≡ with_area p (undone put_area rs (area_of p))
