@@ -1,6 +1,7 @@
 -- A spot put back restores a cell or a context byte, and nothing else.
-use Rattle.std.specs.Prelude.{◌≡◌, ℕ, ◌<◌, Bool, true, false, cond, List, length, nat_lt, slice_set, refl}
-use Rattle.std.proofs.Common.{ap, ◌∙◌}
+use Rattle.std.specs.Prelude.{◌≡◌, ℕ, ◌<◌, cond, List, length, nat_lt, slice_set, refl}
+use Rattle.std.proofs.Common.{◌∙◌}
+use Rattle.std.proofs.lemmas.Bool.{cond_both, cond-false}
 use Rattle.std.proofs.lemmas.List.{length-set, set-set}
 use Rattle.av1.specs.declared.tile.Cell.{Cell}
 use Rattle.journal.specs.declared.Spot.{Spot}
@@ -52,38 +53,25 @@ abbrev pub ApartSpot : Spot → Places → Places → Type 0
 ApartSpot r p q = put_places r q ≡ put_places r p
 
 below_same : {A : Type 0} (size i : ℕ) (a : A) (l : List A) → slice_set l i a ≡ l → put_below size i a l ≡ l
-below_same size i a l e = go (nat_lt i size)
-  where
-    go : (b : Bool) → cond b (slice_set l i a) l ≡ l
-    go true = e
-    go false = refl
+below_same size i a l e = cond_both (nat_lt i size) (slice_set l i a) l (λ m. m ≡ l) (λ t. e) (λ t. refl)
 
 below_twice : {A : Type 0} (size i : ℕ) (a : A) (l : List A) → put_below size i a (put_below size i a l) ≡ put_below size i a l
-below_twice size i a l = go (nat_lt i size)
-  where
-    go : (b : Bool) → cond b (slice_set (cond b (slice_set l i a) l) i a) (cond b (slice_set l i a) l) ≡ cond b (slice_set l i a) l
-    go true = set-set l i a a
-    go false = refl
+below_twice size i a l =
+    cond_both (nat_lt i size) (slice_set l i a) l (λ m. put_below size i a m ≡ m) (λ t. below_same size i a (slice_set l i a) (set-set l i a a))
+    (cond-false (nat_lt i size) (slice_set l i a) l)
 
 length_below : {A : Type 0} (size i : ℕ) (a : A) (l : List A) → length (put_below size i a l) ≡ length l
-length_below size i a l = go (nat_lt i size)
-  where
-    go : (b : Bool) → length (cond b (slice_set l i a) l) ≡ length l
-    go true = length-set l i a
-    go false = refl
+length_below size i a l = cond_both (nat_lt i size) (slice_set l i a) l (λ m. length m ≡ length l) (λ t. length-set l i a) (λ t. refl)
 
 held_same : (r : Spot) (p : Places) → HoldsSpot r p → put_places r p ≡ p
-held_same (spot.Cell i c) p h = ap (λ (l : List Cell). with_area p (area p.above.now p.left.now l)) (below_same (length p.cells.now) i c p.cells.now h.1)
-held_same (spot.Above i b) p h = ap (λ (l : List ℕ). with_area p (area l p.left.now p.cells.now)) (below_same 512 i b p.above.now h.1)
-held_same (spot.Left i b) p h = ap (λ (l : List ℕ). with_area p (area p.above.now l p.cells.now)) (below_same 8 i b p.left.now h.1)
+held_same (spot.Cell i c) p h = rw (below_same (length p.cells.now) i c p.cells.now h.1)
+held_same (spot.Above i b) p h = rw (below_same 512 i b p.above.now h.1)
+held_same (spot.Left i b) p h = rw (below_same 8 i b p.left.now h.1)
 
 put_twice : (r : Spot) (p : Places) → put_places r (put_places r p) ≡ put_places r p
-put_twice (spot.Cell i c) p =
-    let l : List Cell = p.cells.now in
-    ap (λ (m : List Cell). with_area p (area p.above.now p.left.now m))
-    (ap (λ (n : ℕ). put_below n i c (put_below (length l) i c l)) (length_below (length l) i c l) ∙ below_twice (length l) i c l)
-put_twice (spot.Above i b) p = ap (λ (l : List ℕ). with_area p (area l p.left.now p.cells.now)) (below_twice 512 i b p.above.now)
-put_twice (spot.Left i b) p = ap (λ (l : List ℕ). with_area p (area p.above.now l p.cells.now)) (below_twice 8 i b p.left.now)
+put_twice (spot.Cell i c) p = rw (length_below (length p.cells.now) i c p.cells.now, below_twice (length p.cells.now) i c p.cells.now)
+put_twice (spot.Above i b) p = rw (below_twice 512 i b p.above.now)
+put_twice (spot.Left i b) p = rw (below_twice 8 i b p.left.now)
 
 pub spot_laws : Restoring put_places HoldsSpot ApartSpot
 spot_laws = record { restores = λ r p q h a. a ∙ held_same r p h; only = put_twice }

@@ -1,11 +1,11 @@
 -- A window put back into the tables restores the words that it holds, and no others.
-use Rattle.std.specs.Prelude.{◌≡◌, ℕ, ◌+◌, ◌≤◌, Bool, true, false, cond, ◌&&◌, List, ◌++◌, length, take, drop, refl}
-use Rattle.std.proofs.Common.{sym, ap, ap₂, ◌∙◌, arith, le→leb}
+use Rattle.std.specs.Prelude.{◌≡◌, ℕ, ◌+◌, ◌≤◌, List, ◌++◌, length, take, drop, refl}
+use Rattle.std.proofs.Common.{sym, ap, ap₂, ◌∙◌, arith}
+use Rattle.std.proofs.lemmas.Bool.{and_from, cond-true, cond_both, le-leb}
 use Rattle.std.proofs.lemmas.List.Edits.{sets}
 use Rattle.cdf.specs.declared.tables.Tables.{Tables}
 use Rattle.cdf.specs.Layout.{lawful, words_in_all, SoundWords}
 use Rattle.cdf.specs.Windows.{window, taken_window, put_window}
-use Rattle.cdf.proofs.Booleans.{T→true}
 use Rattle.cdf.proofs.Regions.{put_sound}
 use Rattle.cdf.proofs.SameWords.{same_words}
 use Rattle.cdf.proofs.Stores.{sets_before, sets_behind, sets_own, sets_splice}
@@ -48,19 +48,16 @@ window_restores : {n : ℕ} (r : Window n) (t u : Tables) → HoldsWindow r t �
 window_restores r t u h a =
     let back : sets u.words r.first r.words ≡ t.words = window_back r t u h a in
     same_words (put_tables r u) t
-    (ap₂ (λ (x y : Bool). cond (x && y) (sets u.words r.first r.words) u.words) (T→true _ (le→leb (r.first + length r.words) words_in_all h.inside)) (ap lawful back ∙ t.fits)
-    ∙ back)
+    (cond-true (taken_window r.first r.words u.words) (sets u.words r.first r.words) u.words (and_from _ _ (le-leb _ _ h.inside) (ap lawful back ∙ t.fits)) ∙ back)
 
 window_only : {n : ℕ} (r : Window n) (t : Tables) → ApartWindow r t (put_tables r t)
-window_only r t = record { front = front (taken_window r.first r.words t.words); behind = behind (taken_window r.first r.words t.words) }
-  where
-    front : (b : Bool) → take r.first (cond b (sets t.words r.first r.words) t.words) ≡ take r.first t.words
-    front true = sets_behind r.words t.words 0 r.first r.first (omega arith)
-    front false = refl
-
-    behind : (b : Bool) → drop (r.first + length r.words) (cond b (sets t.words r.first r.words) t.words) ≡ drop (r.first + length r.words) t.words
-    behind true = sets_before r.words t.words r.first (r.first + length r.words) (omega arith)
-    behind false = refl
+window_only r t =
+    let end = r.first + length r.words in
+    let either = cond_both (taken_window r.first r.words t.words) (sets t.words r.first r.words) t.words in
+    record {
+      front = either (λ ws. take r.first ws ≡ take r.first t.words) (λ e. sets_behind r.words t.words 0 r.first r.first (omega arith)) (λ e. refl);
+      behind = either (λ ws. drop end ws ≡ drop end t.words) (λ e. sets_before r.words t.words r.first end (omega arith)) (λ e. refl);
+    }
 
 pub window_laws : {n : ℕ} → Restoring {R = Window n} put_tables HoldsWindow ApartWindow
 window_laws = record { restores = window_restores; only = window_only }

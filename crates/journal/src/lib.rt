@@ -10,26 +10,32 @@ pub use crate::walk::{UndoRecord, undo};
 use av1::Cell;
 
 /// What `W` words from word `first` on were before a symbol adapted a table among them.
-#[derive(Clone, Copy)]
+#[derive(Clone, Copy, PartialEq, Debug)]
 pub struct Window<const W: usize> {
     pub first: u16,
     pub words: [u16; W],
 }
 
 /// What a cell or a context byte was before it was set.
-#[derive(Clone, Copy)]
+#[derive(Clone, Copy, PartialEq, Debug)]
 pub enum Spot {
     Cell { at: u32, was: Cell },
     Above { at: u16, was: u8 },
     Left { at: u8, was: u8 },
 }
 
-/// The moment at which a trial was opened: the records in use in each lane, and the entries in the sink.
-#[derive(Clone, Copy)]
-pub struct Mark {
+/// A number of undo records for each lane.
+#[derive(Clone, Copy, PartialEq, Debug, Default)]
+pub struct Counts {
     pub small: usize,
     pub large: usize,
     pub spots: usize,
+}
+
+/// The moment at which a trial was opened: the records in use in each lane, and the entries in the sink.
+#[derive(Clone, Copy, PartialEq, Debug, Default)]
+pub struct Mark {
+    pub used: Counts,
     pub entries: usize,
 }
 

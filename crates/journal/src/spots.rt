@@ -1,6 +1,6 @@
 ghost use Rattle.std.specs.Prelude.{◌≡◌, length};
 ghost use Rattle.journal.specs.Walks.{visited, undone};
-ghost use Rattle.journal.specs.Spots.{area, put_area, put_places, HoldsSpot, ApartSpot, spot_laws};
+ghost use Rattle.journal.specs.Spots.{area, put_below, put_area, put_places, HoldsSpot, ApartSpot, spot_laws};
 
 use crate::Spot;
 use crate::walk::{UndoRecord, undo};
@@ -12,6 +12,15 @@ pub struct Places<'a> {
     pub above: &'a mut [u8; 512],
     pub left: &'a mut [u8; 8],
     pub cells: &'a mut [Cell],
+}
+
+// Sets an item, where its number is below the length.
+fn set_inside<T: Copy>(items: &mut [T], at: usize, item: T)
+    ensures { items.new ≡ put_below (length items.old) at item items.old }
+{
+    if at < items.len() {
+        items[at] = item;
+    }
 }
 
 /// A spot is passed over where its number is not below the number of cells, or of the context bytes.
@@ -26,26 +35,15 @@ impl<'a> UndoRecord<Places<'a>> for Spot {
 
     fn put_back(&self, target: &mut Places<'a>) {
         match *self {
-            Spot::Cell { at, was } => {
-                if (at as usize) < target.cells.len() {
-                    target.cells[at as usize] = was;
-                }
-            }
-            Spot::Above { at, was } => {
-                if at < 512 {
-                    target.above[at as usize] = was;
-                }
-            }
-            Spot::Left { at, was } => {
-                if at < 8 {
-                    target.left[at as usize] = was;
-                }
-            }
+            Spot::Cell { at, was } => set_inside(target.cells, at as usize, was),
+            Spot::Above { at, was } => set_inside(target.above, at as usize, was),
+            Spot::Left { at, was } => set_inside(target.left, at as usize, was),
         }
     }
 }
 
 /// Puts back the spots of a lane as `undo` does, into bytes and cells that are lent one by one.
+// Not one `Places`: each caller would then have to prove that the references in it still name the memory they did.
 pub fn undo_spots(
     lane: &[Spot],
     from: usize,

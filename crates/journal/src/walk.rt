@@ -27,10 +27,9 @@ pub fn undo<T, R: UndoRecord<T>>(lane: &[R], from: usize, upto: usize, target: &
     ensures back { (t : T) → Logged R.UndoRecord.holds R.UndoRecord.apart (visited from upto lane.now) t target.old → target.new ≡ t }
 {
     let end = upto.min(lane.len());
-    let mut at = end;
-    while at > from {
-        at -= 1;
-        lane[at].put_back(target);
+    let records = &lane[from.min(end)..end];
+    for record in records.iter().rev() {
+        record.put_back(target);
     }
-    end.saturating_sub(from)
+    records.len()
 }

@@ -122,27 +122,27 @@ module _ (S : Subject) (L : Laws S) where
           k.1))
 
   own_above : (t : TrailOf S) (m : Mark) → Own t → Own (above S t m)
-  own_above t m h = (each_drop S.InSmall m.small t.small h.0, each_drop S.InLarge m.large t.large h.1)
+  own_above t m h = (each_drop S.InSmall m.used.small t.small h.0, each_drop S.InLarge m.used.large t.large h.1)
 
   own_below : (t : TrailOf S) (m : Mark) → Own t → Own (below S t m)
-  own_below t m h = (each_take S.InSmall m.small t.small h.0, each_take S.InLarge m.large t.large h.1)
+  own_below t m h = (each_take S.InSmall m.used.small t.small h.0, each_take S.InLarge m.used.large t.large h.1)
 
   -- the mark lies within the records
   abbrev Within : TrailOf S → Mark → Type 0
-  Within t m = (m.small ≤ length t.small) × (m.large ≤ length t.large) × (m.spots ≤ length t.spots)
+  Within t m = (m.used.small ≤ length t.small) × (m.used.large ≤ length t.large) × (m.used.spots ≤ length t.spots)
 
   core_path : {s s' : S.State} {es es' : List Entry} → s ≡ s' → es ≡ es' → ◌≡◌ {A = Core S} (record { state = s; entries = es }) (record { state = s'; entries = es' })
   core_path p q = λ i. record { state = p i; entries = q i }
 
   above_joined : (t u : TrailOf S) (m : Mark) → Within t m → above S (joined t u) m ≡ joined (above S t m) u
   above_joined t u m h =
-      trail_path (drop-append-le m.small t.small u.small h.0) (drop-append-le m.large t.large u.large h.1)
-      (drop-append-le m.spots t.spots u.spots h.2)
+      trail_path (drop-append-le m.used.small t.small u.small h.0) (drop-append-le m.used.large t.large u.large h.1)
+      (drop-append-le m.used.spots t.spots u.spots h.2)
 
   below_joined : (t u : TrailOf S) (m : Mark) → Within t m → below S (joined t u) m ≡ below S t m
   below_joined t u m h =
-      trail_path (take-append-le m.small t.small u.small h.0) (take-append-le m.large t.large u.large h.1)
-      (take-append-le m.spots t.spots u.spots h.2)
+      trail_path (take-append-le m.used.small t.small u.small h.0) (take-append-le m.used.large t.large u.large h.1)
+      (take-append-le m.used.spots t.spots u.spots h.2)
 
   abbrev trail_at : Core S → Standing S → TrailOf S
   trail_at c x = S.trail c.state x.question x.decision
@@ -165,16 +165,16 @@ module _ (S : Subject) (L : Laws S) where
 
   -- nothing lies above the mark
   abbrev Beyond : Core S → TrailOf S → Mark → Type 0
-  Beyond c t m = (length t.small ≤ m.small) × (length t.large ≤ m.large) × (length t.spots ≤ m.spots) × (length c.entries ≤ m.entries)
+  Beyond c t m = (length t.small ≤ m.used.small) × (length t.large ≤ m.used.large) × (length t.spots ≤ m.used.spots) × (length c.entries ≤ m.entries)
 
   undone_all : (c : Core S) (t : TrailOf S) (m : Mark) → Beyond c t m → undone S c t m ≡ c
   undone_all c t m h =
       core_path
-      (ap (undone_state S c.state) (trail_path (drop_all m.small t.small h.0) (drop_all m.large t.large h.1) (drop_all m.spots t.spots h.2)))
+      (ap (undone_state S c.state) (trail_path (drop_all m.used.small t.small h.0) (drop_all m.used.large t.large h.1) (drop_all m.used.spots t.spots h.2)))
       (take_all m.entries c.entries h.3)
 
   below_all : (c : Core S) (t : TrailOf S) (m : Mark) → Beyond c t m → below S t m ≡ t
-  below_all c t m h = trail_path (take_all m.small t.small h.0) (take_all m.large t.large h.1) (take_all m.spots t.spots h.2)
+  below_all c t m h = trail_path (take_all m.used.small t.small h.0) (take_all m.used.large t.large h.1) (take_all m.used.spots t.spots h.2)
 
   module _ (memory : ℕ) (room : List Entry → ℕ) where
     abbrev pub Fine : Core S → Standing S → Type 0
@@ -220,9 +220,9 @@ module _ (S : Subject) (L : Laws S) where
         let same_calls : take n (xs ++ x ∷ []) ≡ take n xs = take-append-le n xs (x ∷ []) g.0 in (
           longer n xs (x ∷ []) g.0,
           (
-            longer m.small t.small (trail_at c x).small g.1.0,
-            longer m.large t.large (trail_at c x).large g.1.1,
-            longer m.spots t.spots (trail_at c x).spots g.1.2,
+            longer m.used.small t.small (trail_at c x).small g.1.0,
+            longer m.used.large t.large (trail_at c x).large g.1.1,
+            longer m.used.spots t.spots (trail_at c x).spots g.1.2,
           ),
           longer m.entries c.entries (sent S c.state x.question x.decision).entries g.2,
           subst₂ (Reached o) (sym same_calls) (sym same_core) g.3,
@@ -235,7 +235,7 @@ module _ (S : Subject) (L : Laws S) where
 
     none_above : (c : Core S) (t : TrailOf S) (m : Mark) → Beyond c t m → AllTaken S c.state (above S t m)
     none_above c t m h =
-        subst (AllTaken S c.state) (sym (trail_path (drop_all m.small t.small h.0) (drop_all m.large t.large h.1) (drop_all m.spots t.spots h.2))) (tt, tt)
+        subst (AllTaken S c.state) (sym (trail_path (drop_all m.used.small t.small h.0) (drop_all m.used.large t.large h.1) (drop_all m.used.spots t.spots h.2))) (tt, tt)
 
     good_opened : (o c : Core S) (t : TrailOf S) (xs : List (Standing S)) (ms : List Mark) (ns : List ℕ) (m : Mark) → Within t m → Beyond c t m → m.entries ≤ length c.entries
         → Reached o xs c → Good o c t xs ms ns → Good o c t xs (m ∷ ms) (length xs ∷ ns)
@@ -258,14 +258,14 @@ module _ (S : Subject) (L : Laws S) where
         → Good o c t xs (m ∷ ms) (n ∷ ns) → Good o (undone S c t m) (below S t m) (take n xs) (m ∷ ms) (n ∷ ns)
     good_back o c t xs m ms n ns g =
         let k : Beyond (undone S c t m) (below S t m) m =
-        (at_most m.small t.small, at_most m.large t.large, at_most m.spots t.spots, at_most m.entries c.entries) in
+        (at_most m.used.small t.small, at_most m.used.large t.large, at_most m.used.spots t.spots, at_most m.entries c.entries) in
         let same_core : undone S (undone S c t m) (below S t m) m ≡ undone S c t m = undone_all (undone S c t m) (below S t m) m k in
         let same_calls : take n (take n xs) ≡ take n xs = take-take n n xs (omega arith) in (
           at_least n xs g.0,
           (
-            at_least m.small t.small g.1.0,
-            at_least m.large t.large g.1.1,
-            at_least m.spots t.spots g.1.2,
+            at_least m.used.small t.small g.1.0,
+            at_least m.used.large t.large g.1.1,
+            at_least m.used.spots t.spots g.1.2,
           ),
           at_least m.entries c.entries g.2,
           subst₂ (Reached o) (sym same_calls) (sym same_core) g.3,
@@ -280,9 +280,9 @@ module _ (S : Subject) (L : Laws S) where
         (sym (unwound_joined c.state (above S (below S t m) n) (above S t m) sound (own_above (below S t m) n (own_below t m own)) (own_above t m own))
         ∙ ap (undone_state S c.state)
         (sym (trail_path
-        (drop_between n.small m.small t.small (fl_at k.0 (at_most m.small t.small)) h.0)
-        (drop_between n.large m.large t.large (fl_at k.1 (at_most m.large t.large)) h.1)
-        (drop_between n.spots m.spots t.spots (fl_at k.2 (at_most m.spots t.spots)) h.2))))
+        (drop_between n.used.small m.used.small t.small (fl_at k.0 (at_most m.used.small t.small)) h.0)
+        (drop_between n.used.large m.used.large t.large (fl_at k.1 (at_most m.used.large t.large)) h.1)
+        (drop_between n.used.spots m.used.spots t.spots (fl_at k.2 (at_most m.used.spots t.spots)) h.2))))
         (take-take n.entries m.entries c.entries (fl_at e (at_most m.entries c.entries)))
       where
         fl_at : {a b c : ℕ} → a ≤ b → b ≤ c → a ≤ c
@@ -291,16 +291,16 @@ module _ (S : Subject) (L : Laws S) where
     above_twice : (t : TrailOf S) (m n : Mark) → Within t m → Within (below S t m) n → above S t n ≡ joined (above S (below S t m) n) (above S t m)
     above_twice t m n h k =
         trail_path
-        (drop_between n.small m.small t.small (fl_at k.0 (at_most m.small t.small)) h.0)
-        (drop_between n.large m.large t.large (fl_at k.1 (at_most m.large t.large)) h.1)
-        (drop_between n.spots m.spots t.spots (fl_at k.2 (at_most m.spots t.spots)) h.2)
+        (drop_between n.used.small m.used.small t.small (fl_at k.0 (at_most m.used.small t.small)) h.0)
+        (drop_between n.used.large m.used.large t.large (fl_at k.1 (at_most m.used.large t.large)) h.1)
+        (drop_between n.used.spots m.used.spots t.spots (fl_at k.2 (at_most m.used.spots t.spots)) h.2)
       where
         fl_at : {a b c : ℕ} → a ≤ b → b ≤ c → a ≤ c
         fl_at p q = omega arith
 
     below_twice : (t : TrailOf S) (m n : Mark) → Within (below S t m) n → below S (below S t m) n ≡ below S t n
     below_twice t m n k =
-        trail_path (short n.small m.small t.small k.0) (short n.large m.large t.large k.1) (short n.spots m.spots t.spots k.2)
+        trail_path (short n.used.small m.used.small t.small k.0) (short n.used.large m.used.large t.large k.1) (short n.used.spots m.used.spots t.spots k.2)
       where
         short : {A : Type 0} (n m : ℕ) (l : List A) → n ≤ length (take m l) → take n (take m l) ≡ take n l
         short n m l h = let k : n ≤ min m (length l) = rw length-take at h in take-take n m l (omega arith)
@@ -316,9 +316,9 @@ module _ (S : Subject) (L : Laws S) where
         let same_calls : take n' (take n xs) ≡ take n' xs = shorter in (
           within_wider n' n xs inner.0,
           (
-            within_wider m'.small m.small t.small inner.1.0,
-            within_wider m'.large m.large t.large inner.1.1,
-            within_wider m'.spots m.spots t.spots inner.1.2,
+            within_wider m'.used.small m.used.small t.small inner.1.0,
+            within_wider m'.used.large m.used.large t.large inner.1.1,
+            within_wider m'.used.spots m.used.spots t.spots inner.1.2,
           ),
           within_wider m'.entries m.entries c.entries inner.2,
           subst₂ (Reached o) same_calls same_core inner.3,
@@ -443,12 +443,12 @@ module _ (S : Subject) (L : Laws S) where
           reached = g.3;
           good =
               subst (λ t. Good o (undone S c (trail_of S (stage c x y z (m ∷ ms))) m) t (take n xs) (m ∷ ms) (n ∷ ns))
-              (sym (trail_path (lane_back x m.small g.1.0) (lane_back y m.large g.1.1) (lane_back z m.spots g.1.2)))
+              (sym (trail_path (lane_back x m.used.small g.1.0) (lane_back y m.used.large g.1.1) (lane_back z m.used.spots g.1.2)))
               (good_back o c t xs m ms n ns g);
-          laid = (lane_back_laid x m.small g.1.0, lane_back_laid y m.large g.1.1, lane_back_laid z m.spots g.1.2);
+          laid = (lane_back_laid x m.used.small g.1.0, lane_back_laid y m.used.large g.1.1, lane_back_laid z m.used.spots g.1.2);
           own = (
-            subst (Each S.InSmall) (sym (lane_back x m.small g.1.0)) (own_below t m i.own).0,
-            subst (Each S.InLarge) (sym (lane_back y m.large g.1.1)) (own_below t m i.own).1,
+            subst (Each S.InSmall) (sym (lane_back x m.used.small g.1.0)) (own_below t m i.own).0,
+            subst (Each S.InLarge) (sym (lane_back y m.used.large g.1.1)) (own_below t m i.own).1,
           );
         }
 

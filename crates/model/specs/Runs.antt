@@ -163,16 +163,16 @@ module _ (S : Subject) where
   undone_state s t = unwound S.put_spot (unwound S.put_large (unwound S.put_small s t.small) t.large) t.spots
 
   abbrev pub above : TrailOf → Mark → TrailOf
-  above t m = record { small = drop m.small t.small; large = drop m.large t.large; spots = drop m.spots t.spots }
+  above t m = record { small = drop m.used.small t.small; large = drop m.used.large t.large; spots = drop m.used.spots t.spots }
 
   abbrev pub below : TrailOf → Mark → TrailOf
-  below t m = record { small = take m.small t.small; large = take m.large t.large; spots = take m.spots t.spots }
+  below t m = record { small = take m.used.small t.small; large = take m.used.large t.large; spots = take m.used.spots t.spots }
 
   abbrev pub undone : Core → TrailOf → Mark → Core
   undone c t m = record { state = undone_state c.state (above t m); entries = take m.entries c.entries }
 
   abbrev pub moment : World → Mark
-  moment w = record { small = w.small.used; large = w.large.used; spots = w.spots.used; entries = length w.core.entries }
+  moment w = record { used = record { small = w.small.used; large = w.large.used; spots = w.spots.used }; entries = length w.core.entries }
 
   abbrev pub lanes_asked : World → TrailOf → Option Refusal
   lanes_asked w t = unless (has_room w.small t.small && (has_room w.large t.large && has_room w.spots t.spots)) no.LogRoom
@@ -216,9 +216,9 @@ module _ (S : Subject) where
   at_mark w (m ∷ ms) =
       record {
         core = undone w.core (trail_of w) m;
-        small = back_to w.small m.small;
-        large = back_to w.large m.large;
-        spots = back_to w.spots m.spots;
+        small = back_to w.small m.used.small;
+        large = back_to w.large m.used.large;
+        spots = back_to w.spots m.used.spots;
         marks = m ∷ ms;
       }
 

@@ -46,142 +46,106 @@ pub enum Question {
 }
 
 /// Different decisions of one question have symbols that differ, whatever the question's syntax.
-pub fn decisions_told_apart() -> u8
+pub fn decisions_told_apart()
     ensures numbers { TellsApart ℕ }
     ensures flags { TellsApart Bool }
     ensures pairs { TellsApart (ℤ × ℤ) }
-{
-    0
-}
+{}
 
 /// What is written for a decision is read as that decision, whatever the question's syntax.
-pub fn decisions_read_back() -> u8
+pub fn decisions_read_back()
     ensures numbers { ReadsBack ℕ }
     ensures flags { ReadsBack Bool }
     ensures pairs { ReadsBack (ℤ × ℤ) }
-{
-    0
-}
+{}
 
 /// A decision is its symbols, one after the other, and then the cells or context bytes that it sets.
-pub fn decisions_go_by_steps() -> u8
+pub fn decisions_go_by_steps()
     ensures by_steps { BySteps }
     ensures steps_then { StepsThen ℤ (ℤ × ℤ) }
     ensures read_then { ReadThen ℤ (ℤ × ℤ) }
     ensures read_by { ReadBy ℤ (ℤ × ℤ) }
-{
-    0
-}
+{}
 
 /// A decision writes an entry for each symbol of its path; that is what room is asked for.
-pub fn entries_counted() -> u8
+pub fn entries_counted()
     ensures { Counted }
-{
-    0
-}
+{}
 
 /// Every table that a syntax may name is one of the layout, and every cell or byte that a decision sets lies inside.
-pub fn everything_inside() -> u8
+pub fn everything_inside()
     ensures trees_in_layout { TreesInLayout }
     ensures spots_inside { SpotsInside }
-{
-    0
-}
+{}
 
 /// A skip flag or a segment is set in each cell of its block inside the tile, and nothing else is.
-pub fn decisions_set_their_block() -> u8
+pub fn decisions_set_their_block()
     ensures skip_set { SkipSet }
     ensures segment_set { SegmentSet }
-{
-    0
-}
+{}
 
 /// A context bit says that the neighbour is narrower, or lower, than the block.
-pub fn context_bits_compare_sizes() -> u8
+pub fn context_bits_compare_sizes()
     ensures { ContextBits }
-{
-    0
-}
+{}
 
 /// A component's symbols lead to it.
-pub fn component_leads() -> u8
+pub fn component_leads()
     ensures { ComponentLeads }
-{
-    0
-}
+{}
 
 /// The writer's symbols of every decision that the questions accept lead to that decision.
-pub fn accepted_decisions_lead() -> u8
+pub fn accepted_decisions_lead()
     ensures { AcceptedLeads }
-{
-    0
-}
+{}
 
 /// A vector's joint names the components that are not zero, a component's first symbol is its sign, and the first
 /// symbol of alphas has both their signs.
-pub fn first_symbols() -> u8
+pub fn first_symbols()
     ensures joint { JointNames }
     ensures sign { SignFirst }
     ensures signs { SignsJoined }
-{
-    0
-}
+{}
 
 /// A skipped segment carries no number.
-pub fn skipped_segment_has_no_number() -> u8
+pub fn skipped_segment_has_no_number()
     ensures { SkippedAlike }
-{
-    0
-}
+{}
 
 /// A read of any entries keeps a state sound, and its faults tell what they should.
-pub fn reads_keep_sound() -> u8
+pub fn reads_keep_sound()
     ensures reads_sound { ReadsSound }
     ensures faults { Faults }
-{
-    0
-}
+{}
 
 /// A call is refused exactly where the questions say no, and leaves everything as it was.
-pub fn refused_where_asked() -> u8
+pub fn refused_where_asked()
     ensures { RefusedAlike stage }
-{
-    0
-}
+{}
 
 /// What was taken back leaves no trace.
-pub fn no_trace() -> u8
+pub fn no_trace()
     ensures { NoTrace stage }
-{
-    0
-}
+{}
 
 /// In lanes that nobody else writes, taking back passes over no window.
-pub fn none_passed_over() -> u8
+pub fn none_passed_over()
     ensures { NonePassed stage }
-{
-    0
-}
+{}
 
 /// The record of a run reads back as its standing decisions.
-pub fn record_reads_back() -> u8
+pub fn record_reads_back()
     ensures { ReadsRecord stage }
-{
-    0
-}
+{}
 
 /// Two runs whose standing calls differ in a decision differ in a symbol.
-pub fn runs_told_apart() -> u8
+pub fn runs_told_apart()
     ensures { TellsRunsApart stage }
-{
-    0
-}
+{}
 
 /// The worked examples hold, a start is sound, and a short run with a trial goes as it should.
-pub fn worked_examples() -> u8
+pub fn worked_examples()
     ensures worked { Worked }
     ensures starts_sound { StartsSound }
     ensures short_run { ShortRun }
-{
-    0
-}
+{}

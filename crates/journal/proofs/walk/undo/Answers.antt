@@ -1,34 +1,22 @@
-use Rattle.std.proofs.Common.{◌≡◌, ◌+◌, ◌-◌, ◌<◌, ◌≤◌, length, sym, ap, ◌∙◌, arith, rules}
-use Rattle.journal.specs.Walks.{visited, undone}
-use Rattle.journal.proofs.Walking.{visited_all, visited_none, visited_number, undone_step, logged_back}
+use Rattle.std.proofs.Common.{[], ◌∷◌, ◌∙◌}
+use Rattle.std.specs.Iterator.Adapters.{rev_source}
+use Rattle.std.specs.Slice.Iter.{iter_rest}
+use Rattle.std.proofs.lemmas.List.{nil_from_length}
+use Rattle.journal.specs.Walks.{visited}
+use Rattle.journal.proofs.Walking.{visited_part, undone_append, logged_back}
 use Rattle.journal.proofs.walk.undo.Goals as goal
 
-pub loop-at-init : goal.loop-at-init
-loop-at-init g c =
-    let lane = c.args.lane.now in
-    let put = g.R.UndoRecord.restored in
-    (omega arith, ap (λ n. undone put (visited c.args.from n lane) c.args.target.now) c.min-end.ensures ∙ ap (λ rs. undone put rs c.args.target.now) (visited_all lane c.args.from c.args.upto))
+pub loop-record-preserved : goal.loop-record-preserved
+loop-record-preserved g c =
+    let step = undone_append g.R.UndoRecord.restored (iter_rest (rev_source c.next.new.self)) (c.in-Some.record.now ∷ []) c.loop-record.target in
+    rw (c.put_back.ensures, ← step, ← c.in-Some.ensures.steps) c.loop-record.invariant
 
-pub loop-at-preserved : goal.loop-at-preserved
-loop-at-preserved g c =
-    let put = g.R.UndoRecord.restored in
-    let at = c.loop-at.at - 1 in
-    let low : c.args.from ≤ at = omega arith in
-    let high : at < length c.args.lane.now = omega arith in
-    let back : at + 1 ≡ c.loop-at.at = omega arith in
-    let step = undone_step put c.args.lane.now c.args.from at c.index-lane-at.result c.loop-at.target low high c.index-lane-at.is in
-    (omega arith, cc)
+pub returns-clause-state : goal.returns-clause-state
+returns-clause-state g c =
+    let none = nil_from_length (iter_rest (rev_source c.loop-record.record-iterator)) c.in-None.ensures.steps.0 in
+    let all = visited_part c.args.lane.now c.args.from c.args.upto c.min.result c.min-end.result c.min-end.ensures c.min.ensures in
+    rw (none, all) at c.loop-record.invariant
 
-pub returns : goal.returns
-returns g c =
-    let put = g.R.UndoRecord.restored in
-    let lane = c.args.lane.now in
-    let from = c.args.from in
-    let rs = visited from c.args.upto lane in
-    let none = ap (λ qs. undone put qs c.loop-at.target) (visited_none lane from c.loop-at.at (omega arith)) in
-    let state : c.loop-at.target ≡ undone put rs c.args.target.now = sym none ∙ c.loop-at.invariant.1 in
-    record {
-      state = state;
-      count = rw (visited_number lane from c.args.upto) (search rules);
-      back = λ t h. state ∙ logged_back g.R.UndoRecord.laws rs t c.args.target.now h;
-    }
+pub returns-clause-back : goal.returns-clause-back
+returns-clause-back g c t h =
+    returns-clause-state g c ∙ logged_back g.R.UndoRecord.laws (visited c.args.from c.args.upto c.args.lane.now) t c.args.target.now h
