@@ -55,7 +55,7 @@ module _ (memory : ℕ) (room : List Entry → ℕ) (s : State) (j : Journal) (l
   alphas_refusal : refusal stage memory room (world_at s j l es) (ask question.Alphas (u, v))
       ≡ or_else (unless (alphas_allowed (u, v)) no.Alphas) (refused_by (record_asked j l (room es) count (need 0 count 0)))
   alphas_refusal =
-      regroup (unless (alphas_allowed (u, v)) no.Alphas) few (open_questions stage (world_at s j l es) question.Alphas (u, v) (marks_of j.marks j.trials))
+      regroup (unless (alphas_allowed (u, v)) no.Alphas) few (open_questions stage (world_at s j l es) question.Alphas (u, v) (marks_of j))
       ∙ ap (or_else (unless (alphas_allowed (u, v)) no.Alphas))
       (record_refusal s j l es question.Alphas (u, v) (room es) count 0 count 0 refl (coded u v).symbols ((coded u v).small s.words) ((coded u v).large s.words) refl)
     where

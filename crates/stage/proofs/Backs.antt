@@ -1,7 +1,7 @@
 -- Taking back in the stage is the model's: the walks over the lanes, and the world after them.
-use Rattle.std.proofs.Common.{◌≡◌, ℕ, zero, suc, ◌-◌, ◌<◌, Bool, true, false, cond, not, ◌&&◌, ◌||◌, eqb, ltb, leb, List, [], ◌∷◌, length, get_or, take, set, Ok, Err, sym, refl, ap, ◌∙◌, ap₂, arith}
+use Rattle.std.proofs.Common.{◌≡◌, ℕ, zero, suc, ◌-◌, ◌<◌, Bool, true, false, cond, not, ◌&&◌, ◌||◌, eqb, ltb, leb, List, [], ◌∷◌, length, reverse, get_or, take, set, Ok, Err, sym, refl, ap, ◌∙◌, ap₂, arith}
 use mathlib.Core.Option.{Option, none, some}
-use Rattle.std.proofs.lemmas.List.{length-set}
+use Rattle.std.proofs.lemmas.List.{length-reverse, length-set}
 use Rattle.std.proofs.lemmas.Bool.{ne_eqb}
 use Rattle.av1.specs.declared.refusal.Refusal.{Refusal}
 use Rattle.av1.specs.declared.refusal.Refusal.TheVariants as no
@@ -20,8 +20,8 @@ use Rattle.model.specs.Decisions.{State, stage, units, with_words, put_back, put
 use Rattle.model.specs.Runs.{World, Lent, take_back, refusal, or_else, unless, unwound, innermost, fewer_asked, at_mark}
 use Rattle.stage.specs.declared.state.Journal.{Journal}
 use Rattle.stage.specs.Questions.{back_asked, innermost_mark}
-use Rattle.stage.specs.View.{lane, marks_of, no_mark, world_at, refused_by}
-use Rattle.stage.proofs.Trials.{marks_length, marks_first, by_refusal}
+use Rattle.stage.specs.View.{lane, marks_of, no_mark, open_trials, world_at, refused_by}
+use Rattle.stage.proofs.Trials.{marks_first, by_refusal}
 
 -- a walk over windows: the words of the tables, and the state that has them
 pub windows_walk : {n : ℕ} (rs : List (Window n)) (s : State) (t : Tables) → s.words ≡ t.words → with_words s (undone put_tables rs t).words ≡ unwound put_back s rs
@@ -96,30 +96,37 @@ module _ (memory : ℕ) (room : List Entry → ℕ) (s : State) (j : Journal) (l
   -- the questions of taking back
   back_refusal : (depth : ℕ) → refusal stage memory room here (take_back depth) ≡ refused_by (back_asked (units s) memory j l (length es) depth)
   back_refusal depth =
-      ap (λ o. or_else (unless mapped no.MapMemory) (or_else (unless held no.LogRoom) o)) (inner j.trials)
-      ∙ go mapped held (eqb j.trials 0 || not (eqb depth j.trials)) (leb (innermost_mark j).entries (length es))
+      ap (λ o. or_else (unless mapped no.MapMemory) (or_else (unless held no.LogRoom) o)) inner
+      ∙ go mapped held (eqb (open_trials j) 0 || not (eqb depth (open_trials j))) (leb (innermost_mark j).entries (length es))
     where
       mapped : Bool
       mapped = leb (units s) memory
 
       held : Bool
-      held = leb j.small (length l.small) && (leb j.large (length l.large) && leb j.spots (length l.spots))
-
-      asked : ℕ → Option Refusal
-      asked n = cond (eqb n 0 || not (eqb depth n)) (some no.NotInnermost) (unless (leb (get_or j.marks (n - 1) no_mark).entries (length es)) no.EntriesGone)
+      held = leb j.used.small (length l.small) && (leb j.used.large (length l.large) && leb j.used.spots (length l.spots))
 
       turn : (a b : Bool) → or_else (unless a no.NotInnermost) (unless b no.EntriesGone) ≡ cond (not a) (some no.NotInnermost) (unless b no.EntriesGone)
       turn true b = refl
       turn false b = refl
 
-      inner : (n : ℕ) → or_else (innermost depth (marks_of j.marks n)) (fewer_asked stage here (marks_of j.marks n)) ≡ asked n
-      inner zero = refl
-      inner (suc n) =
-          let on : n ≡ suc n - 1 = omega arith in
-          ap (λ k. or_else (unless (eqb depth (suc k)) no.NotInnermost) (unless (leb (get_or j.marks n no_mark).entries (length es)) no.EntriesGone)) (marks_length j.marks n)
-          ∙ turn (eqb depth (suc n)) (leb (get_or j.marks n no_mark).entries (length es))
-          ∙ ap₂ (λ b k. cond (b || not (eqb depth (suc n))) (some no.NotInnermost) (unless (leb (get_or j.marks k no_mark).entries (length es)) no.EntriesGone))
-          (sym (ne_eqb (suc n) 0 (λ z. omega arith))) on
+      -- by the marks, the innermost first
+      inside : (n : ℕ) (ms : List Mark) → length ms ≡ n → ((m : Mark) (ks : List Mark) → ms ≡ m ∷ ks → m ≡ innermost_mark j)
+          → or_else (innermost depth ms) (fewer_asked stage here ms) ≡ cond (eqb n 0 || not (eqb depth n)) (some no.NotInnermost) (unless (leb (innermost_mark j).entries (length es)) no.EntriesGone)
+      inside n [] e first = ap (λ k. cond (eqb k 0 || not (eqb depth k)) (some no.NotInnermost) (unless (leb (innermost_mark j).entries (length es)) no.EntriesGone)) e
+      inside n (m ∷ ms) e first =
+          turn (eqb depth (length (m ∷ ms))) (leb m.entries (length es))
+          ∙ ap₂ (λ b (k : Mark). cond (b || not (eqb depth (length (m ∷ ms)))) (some no.NotInnermost) (unless (leb k.entries (length es)) no.EntriesGone))
+          (sym (ne_eqb (length (m ∷ ms)) 0 (λ z. omega arith))) (first m ms refl)
+          ∙ ap (λ k. cond (eqb k 0 || not (eqb depth k)) (some no.NotInnermost) (unless (leb (innermost_mark j).entries (length es)) no.EntriesGone)) e
+
+      head : (m : Mark) (ks : List Mark) → marks_of j ≡ m ∷ ks → m ≡ innermost_mark j
+      head m ks e =
+          let some : 0 < open_trials j = omega (arith, length-reverse j.marks.items, ap length e) in
+          ap (λ ms. get_or ms 0 no_mark) (sym e ∙ marks_first j.marks.items some)
+
+      inner : or_else (innermost depth (marks_of j)) (fewer_asked stage here (marks_of j))
+          ≡ cond (eqb (open_trials j) 0 || not (eqb depth (open_trials j))) (some no.NotInnermost) (unless (leb (innermost_mark j).entries (length es)) no.EntriesGone)
+      inner = inside (open_trials j) (marks_of j) (length-reverse j.marks.items) head
 
       go : (a b c d : Bool) → or_else (unless a no.MapMemory) (or_else (unless b no.LogRoom) (cond c (some no.NotInnermost) (unless d no.EntriesGone)))
           ≡ refused_by (cond a (cond b (cond c (Err no.NotInnermost) (cond d (Ok (innermost_mark j)) (Err no.EntriesGone))) (Err no.LogRoom)) (Err no.MapMemory))
@@ -137,29 +144,29 @@ module _ (memory : ℕ) (room : List Entry → ℕ) (s : State) (j : Journal) (l
 
   -- the world once the lanes were walked and the sink was cut
   pub back_accepted : (depth n : ℕ) (m : Mark) (t : Tables) (s' : State) (es' : List Entry) → n ≡ length es → Ok m ≡ back_asked (units s) memory j l n depth
-      → 0 < j.trials → m ≡ innermost_mark j → length s.cells ≡ units s → s.words ≡ t.words
+      → 0 < open_trials j → m ≡ innermost_mark j → length s.cells ≡ units s → s.words ≡ t.words
       → s' ≡ with_area
-      (with_words s (undone put_tables (visited m.large j.large l.large) (undone put_tables (visited m.small j.small l.small) t)).words)
-      (undone put_area (visited m.spots j.spots l.spots) (area_in s))
+      (with_words s (undone put_tables (visited m.used.large j.used.large l.large) (undone put_tables (visited m.used.small j.used.small l.small) t)).words)
+      (undone put_area (visited m.used.spots j.used.spots l.spots) (area_in s))
       → es' ≡ take m.entries es
-      → (Ok tt, world_at s' (record { trials = j.trials; marks = j.marks; small = m.small; large = m.large; spots = m.spots }) l es') ≡ back_step memory room depth here
+      → (Ok tt, world_at s' (record { marks = j.marks; used = m.used }) l es') ≡ back_step memory room depth here
   unfolding back_step
   back_accepted depth n m t s' es' count h some_open mark long words state cut =
       ap (λ w. (Ok tt, w)) (taken ∙ ap (at_mark stage here) (sym marks))
       ∙ by_refusal tt here (take_back depth) (refusal stage memory room here (take_back depth)) none
       (back_refusal depth ∙ ap (λ k. refused_by (back_asked (units s) memory j l k depth)) (sym count) ∙ ap refused_by (sym h))
     where
-      marks : marks_of j.marks j.trials ≡ m ∷ marks_of j.marks (j.trials - 1)
-      marks = marks_first j.marks j.trials some_open ∙ ap (λ k. k ∷ marks_of j.marks (j.trials - 1)) (sym mark)
+      marks : marks_of j ≡ m ∷ reverse (take (open_trials j - 1) j.marks.items)
+      marks = marks_first j.marks.items some_open ∙ ap (λ k. k ∷ reverse (take (open_trials j - 1) j.marks.items)) (sym mark)
 
       smalls : List (Window 4)
-      smalls = visited m.small j.small l.small
+      smalls = visited m.used.small j.used.small l.small
 
       larges : List (Window 16)
-      larges = visited m.large j.large l.large
+      larges = visited m.used.large j.used.large l.large
 
       spots : List Spot
-      spots = visited m.spots j.spots l.spots
+      spots = visited m.used.spots j.used.spots l.spots
 
       first : State
       first = with_words s (undone put_tables smalls t).words
@@ -170,12 +177,12 @@ module _ (memory : ℕ) (room : List Entry → ℕ) (s : State) (j : Journal) (l
       walked : s' ≡ unwound put_spot (unwound put_back (unwound put_back s smalls) larges) spots
       walked = state ∙ spots_walk spots (with_words s (undone put_tables larges (undone put_tables smalls t)).words) long ∙ ap (λ z. unwound put_spot z spots) both
 
-      taken : ◌≡◌ {A = World stage} (world_at s' (record { trials = j.trials; marks = j.marks; small = m.small; large = m.large; spots = m.spots }) l es')
-          (at_mark stage here (m ∷ marks_of j.marks (j.trials - 1)))
+      taken : ◌≡◌ {A = World stage} (world_at s' (record { marks = j.marks; used = m.used }) l es')
+          (at_mark stage here (m ∷ reverse (take (open_trials j - 1) j.marks.items)))
       taken = λ i. record {
         core = record { state = walked i; entries = cut i };
-        small = lane l.small m.small;
-        large = lane l.large m.large;
-        spots = lane l.spots m.spots;
+        small = lane l.small m.used.small;
+        large = lane l.large m.used.large;
+        spots = lane l.spots m.used.spots;
         marks = marks i;
       }

@@ -1,4 +1,5 @@
 -- A decision that sets the cells of its block: its questions, the world after it, and what becomes of the map.
+use Rattle.stage.specs.Lanes.{OnlySpots}
 use Rattle.std.proofs.Common.{◌≡◌, ℕ, ◌+◌, ◌*◌, ◌<◌, ◌≤◌, min, true, cond, T, List, map, length, get_or, take, Ok, sym, ap, ◌∙◌, subst, ap₂, arith}
 use mathlib.Core.Option.{Option}
 use Rattle.std.proofs.lemmas.Nat.{mul-add-lt}
@@ -45,15 +46,15 @@ pub block_after : (q : Question) (d : Decision q) (k : Change) (memory : ℕ) (s
     → world_at s' j' l' es' ≡ symbol_steps (tree s q) (path s q d) (world_at s j l es)
     → Ok b ≡ block_asked s.columns s.rows memory 64 x y z
     → columns ≡ s'.columns → part ≡ s'.cells → after ≡ cells
-    → logged_cells cells l''.spots j''.spots ≡ change_each (marks_of j'.marks j'.trials) k (block_cells columns b.width b.from b.height) (logged_cells part l'.spots j'.spots)
-    → l''.small ≡ l'.small → l''.large ≡ l'.large → j''.trials ≡ j'.trials → j''.marks ≡ j'.marks → j''.small ≡ j'.small → j''.large ≡ j'.large
+    → logged_cells cells l''.spots j''.used.spots ≡ change_each (marks_of j') k (block_cells columns b.width b.from b.height) (logged_cells part l'.spots j'.used.spots)
+    → l''.small ≡ l'.small → l''.large ≡ l'.large → OnlySpots j'' j'
     → world_at (with_cells s' after) j'' l'' es'
     ≡ spot_steps (spots (with_words s (written s.words (tree s q) (path s q d)).words) q d) (symbol_steps (tree s q) (path s q d) (world_at s j l es))
-block_after q d k memory s s' j j' j'' l l' l'' es es' x y z part cells after columns b set wide high coded block across own whole_map changes a c trials marks small large =
+block_after q d k memory s s' j j' j'' l l' l'' es es' x y z part cells after columns b set wide high coded block across own whole_map changes a c kept =
     ap (λ m. world_at (with_cells s' m) j'' l'' es') whole_map
     ∙ block_world k s' x y z j' j'' l' l'' es' cells b w placed at coded
-    (changes ∙ ap₂ (λ n m. change_each (marks_of j'.marks j'.trials) k (block_cells n b.width b.from b.height) (logged_cells m l'.spots j'.spots)) across own)
-    a c trials marks small large
+    (changes ∙ ap₂ (λ n m. change_each (marks_of j') k (block_cells n b.width b.from b.height) (logged_cells m l'.spots j'.used.spots)) across own)
+    a c kept
     ∙ ap (λ ps. spot_steps ps w) (set w.core.state ∙ ap (λ v. spots v q d) (symbols_state (Decision q) (tree s q) (path s q d) (world_at s j l es)))
   where
     w : World stage

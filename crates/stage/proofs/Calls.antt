@@ -1,4 +1,6 @@
 -- The questions of a call and its outcome, as the model has them.
+use Rattle.stage.specs.View.{open_trials}
+use Rattle.std.proofs.lemmas.List.{length-reverse}
 use Rattle.std.proofs.Common.{◌≡◌, ℕ, zero, suc, ◌+◌, ◌*◌, Bool, true, false, cond, ◌&&◌, ltb, leb, List, [], ◌∷◌, map, length, Ok, Err, Result, sym, refl, ap, ◌∙◌, ap₂, suc-mul, arith, le→leb, lt→ltb}
 use mathlib.Core.Option.{Option, none, some}
 use Rattle.std.proofs.lemmas.List.{length-append, length-map}
@@ -103,26 +105,26 @@ refused_cond false b e f = refl
 
 open_asked : (s : State) (j : Journal) (l : Lent stage) (es : List Entry) (q : Question) (d : Decision q) (a b c : ℕ) → asked_open q ≡ none
     → length (trail s q d).small ≡ a → length (trail s q d).large ≡ b → length (trail s q d).spots ≡ c
-    → open_questions stage (world_at s j l es) q d (marks_of j.marks j.trials) ≡ unless (lanes_fit j l (need a b c)) no.LogRoom
-open_asked s j l es q d a b c quiet small large spots' = go j.trials
+    → open_questions stage (world_at s j l es) q d (marks_of j) ≡ unless (lanes_fit j l (need a b c)) no.LogRoom
+open_asked s j l es q d a b c quiet small large spots' = go (marks_of j) ∙ ap (λ n. unless (cond (ltb 0 n) fit true) no.LogRoom) (length-reverse j.marks.items)
   where
     fit : Bool
-    fit = leb (j.small + a) (length l.small) && (leb (j.large + b) (length l.large) && leb (j.spots + c) (length l.spots))
+    fit = leb (j.used.small + a) (length l.small) && (leb (j.used.large + b) (length l.large) && leb (j.used.spots + c) (length l.spots))
 
     asked : lanes_asked stage (world_at s j l es) (trail s q d) ≡ unless fit no.LogRoom
     asked =
-        λ i. unless (leb (j.small + small i) (length l.small) && (leb (j.large + large i) (length l.large) && leb (j.spots + spots' i) (length l.spots))) no.LogRoom
+        λ i. unless (leb (j.used.small + small i) (length l.small) && (leb (j.used.large + large i) (length l.large) && leb (j.used.spots + spots' i) (length l.spots))) no.LogRoom
 
-    go : (n : ℕ) → open_questions stage (world_at s j l es) q d (marks_of j.marks n) ≡ unless (cond (ltb 0 n) fit true) no.LogRoom
-    go zero = refl
-    go (suc n) =
+    go : (ms : List Mark) → open_questions stage (world_at s j l es) q d ms ≡ unless (cond (ltb 0 (length ms)) fit true) no.LogRoom
+    go [] = refl
+    go (m ∷ ms) =
         ap (λ o. or_else o (lanes_asked stage (world_at s j l es) (trail s q d))) quiet ∙ asked
-        ∙ sym (ap (λ t. unless (cond t fit true) no.LogRoom) (T→true (ltb 0 (suc n)) (lt→ltb 0 (suc n) (omega arith))))
+        ∙ sym (ap (λ t. unless (cond t fit true) no.LogRoom) (T→true (ltb 0 (length (m ∷ ms))) (lt→ltb 0 (length (m ∷ ms)) (omega arith))))
 
 pub record_refusal : (s : State) (j : Journal) (l : Lent stage) (es : List Entry) (q : Question) (d : Decision q) (r n a b c : ℕ) → asked_open q ≡ none
     → length (path s q d) ≡ n
     → length (trail s q d).small ≡ a → length (trail s q d).large ≡ b → length (trail s q d).spots ≡ c
-    → or_else (unless (leb (length (path s q d)) r) no.Room) (open_questions stage (world_at s j l es) q d (marks_of j.marks j.trials))
+    → or_else (unless (leb (length (path s q d)) r) no.Room) (open_questions stage (world_at s j l es) q d (marks_of j))
     ≡ refused_by (record_asked j l r n (need a b c))
 record_refusal s j l es q d r n a b c quiet entries small large spots' =
     ap₂ (λ k o. or_else (unless (leb k r) no.Room) o) entries (open_asked s j l es q d a b c quiet small large spots')
@@ -142,7 +144,7 @@ mapless_refusal memory room s j l es q d n a b c maps quiet entries small large 
     few = unless (leb (length (path s q (decided s q d))) (room es)) no.Room
 
     trials : Option Refusal
-    trials = open_questions stage (world_at s j l es) q (decided s q d) (marks_of j.marks j.trials)
+    trials = open_questions stage (world_at s j l es) q (decided s q d) (marks_of j)
 
     regroup : (b c d e : Option Refusal) → or_else (or_else b (or_else c d)) e ≡ or_else b (or_else c (or_else d e))
     regroup none none d e = refl
@@ -216,7 +218,7 @@ set_refusal memory room s j l es x y z q d n a b maps there quiet entries small 
     few = unless (leb (length (path s q (decided s q d))) (room es)) no.Room
 
     trials : Option Refusal
-    trials = open_questions stage (world_at s j l es) q (decided s q d) (marks_of j.marks j.trials)
+    trials = open_questions stage (world_at s j l es) q (decided s q d) (marks_of j)
 
     regroup : (a b c d e : Option Refusal) → or_else a (or_else (or_else b (or_else c d)) e) ≡ or_else a (or_else b (or_else c (or_else d e)))
     regroup none none none d e = refl

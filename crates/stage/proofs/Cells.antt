@@ -1,4 +1,7 @@
 -- The cells of a block, changed row by row, and what that is in the model.
+use Rattle.stage.specs.Lanes.{OnlySpots}
+use Rattle.stage.proofs.Symbols.{same_marks, same_trials, none_open}
+use Rattle.stage.specs.View.{open_trials}
 use Rattle.std.proofs.Common.{◌≡◌, ℕ, zero, suc, ◌+◌, ◌-◌, ◌*◌, ◌<◌, ◌≤◌, cond, T, ltb, List, [], ◌∷◌, ◌++◌, map, length, get_or, take, drop, set, sym, refl, ap, ◌∙◌, subst, ap₂, add-mul, one-mul, arith, lt→ltb}
 use borrow.Rule.Slice.PartMut.{mid_of, post_of, put_mid}
 use Rattle.std.proofs.lemmas.List.{get_or-set_other, length-take, take_at, drop_at}
@@ -93,52 +96,49 @@ changes_world k h (i ∷ is) b w r e same =
 
 -- the world after a block's cells are changed, from what became of its parts
 set_world : (s : State) (j j' : Journal) (l l' : Lent stage) (es : List Entry) (cells : List Cell) (m : LoggedCells)
-    → logged_cells cells l'.spots j'.spots ≡ m
-    → l'.small ≡ l.small → l'.large ≡ l.large → j'.trials ≡ j.trials → j'.marks ≡ j.marks → j'.small ≡ j.small → j'.large ≡ j.large
+    → logged_cells cells l'.spots j'.used.spots ≡ m
+    → l'.small ≡ l.small → l'.large ≡ l.large → OnlySpots j' j
     → world_at (with_cells s cells) j' l' es ≡ put_cells (world_at s j l es) m
-set_world s j j' l l' es cells m e a b trials marks small large =
+set_world s j j' l l' es cells m e a b kept =
     λ i. record {
       core = record { state = with_cells s (e i).cells; entries = es };
-      small = lane (a i) (small i);
-      large = lane (b i) (large i);
+      small = lane (a i) (kept.small i);
+      large = lane (b i) (kept.large i);
       spots = (e i).spots;
-      marks = marks_of (marks i) (trials i);
+      marks = same_marks j' j kept i;
     }
 
 -- while no trial is open nothing is logged
-quiet_cells : (ms : List Mark) (trials : ℕ) (k : Change) (is : List ℕ) (m : LoggedCells) → trials ≡ 0 → (change_each (marks_of ms trials) k is m).spots ≡ m.spots
-quiet_cells ms zero k is m e = go is m
-  where
-    go : (is : List ℕ) (m : LoggedCells) → (change_each [] k is m).spots ≡ m.spots
-    go [] m = refl
-    go (i ∷ is) m = go is (change_one [] k i m)
-quiet_cells ms (suc n) k is m e = absurd (omega arith)
+quiet_cells : (k : Change) (is : List ℕ) (m : LoggedCells) → (change_each [] k is m).spots ≡ m.spots
+quiet_cells k [] m = refl
+quiet_cells k (i ∷ is) m = quiet_cells k is (change_one [] k i m)
 
 pub still_quiet : (k : Change) (is : List ℕ) (j j' : Journal) (cells cells' : List Cell) (spots spots' : List Spot)
-    → (j'.trials ≡ j.trials) × (j'.marks ≡ j.marks) × (j'.small ≡ j.small) × (j'.large ≡ j.large)
-    → logged_cells cells' spots' j'.spots ≡ change_each (marks_of j.marks j.trials) k is (logged_cells cells spots j.spots)
-    → (j.trials ≡ 0 → (j.small ≡ 0) × (j.large ≡ 0) × (j.spots ≡ 0))
-    → j'.trials ≡ 0 → (j'.small ≡ 0) × (j'.large ≡ 0) × (j'.spots ≡ 0)
+    → OnlySpots j' j
+    → logged_cells cells' spots' j'.used.spots ≡ change_each (marks_of j) k is (logged_cells cells spots j.used.spots)
+    → (open_trials j ≡ 0 → (j.used.small ≡ 0) × (j.used.large ≡ 0) × (j.used.spots ≡ 0))
+    → open_trials j' ≡ 0 → (j'.used.small ≡ 0) × (j'.used.large ≡ 0) × (j'.used.spots ≡ 0)
 still_quiet k is j j' cells cells' spots spots' kept changes quiet closed =
-    let before : j.trials ≡ 0 = sym kept.0 ∙ closed in
-    let unused : (j.small ≡ 0) × (j.large ≡ 0) × (j.spots ≡ 0) = quiet before in (
-      kept.2 ∙ unused.0,
-      kept.3 ∙ unused.1,
+    let before : open_trials j ≡ 0 = sym (same_trials j' j kept) ∙ closed in
+    let unused : (j.used.small ≡ 0) × (j.used.large ≡ 0) × (j.used.spots ≡ 0) = quiet before in (
+      kept.small ∙ unused.0,
+      kept.large ∙ unused.1,
       ap (λ (m : LoggedCells). m.spots.used) changes
-          ∙ ap (λ (l : Lane Spot). l.used) (quiet_cells j.marks j.trials k is (logged_cells cells spots j.spots) before) ∙ unused.2,
+          ∙ ap (λ ms. (change_each ms k is (logged_cells cells spots j.used.spots)).spots.used) (none_open j before)
+          ∙ ap (λ (l : Lane Spot). l.used) (quiet_cells k is (logged_cells cells spots j.used.spots)) ∙ unused.2,
     )
 
 -- a block's cells, changed in the world w, from what became of the parts
 pub block_world : (k : Change) (s : State) (x y : ℕ) (z : BlockSize) (j j' : Journal) (l l' : Lent stage) (es : List Entry) (cells : List Cell) (b : Block) (w : World stage)
     → T (in_tile s x y z) → b ≡ block_at s.columns s.rows x y z → world_at s j l es ≡ w
-    → logged_cells cells l'.spots j'.spots ≡ change_each (marks_of j.marks j.trials) k (block_cells s.columns b.width b.from b.height) (logged_cells s.cells l.spots j.spots)
-    → l'.small ≡ l.small → l'.large ≡ l.large → j'.trials ≡ j.trials → j'.marks ≡ j.marks → j'.small ≡ j.small → j'.large ≡ j.large
+    → logged_cells cells l'.spots j'.used.spots ≡ change_each (marks_of j) k (block_cells s.columns b.width b.from b.height) (logged_cells s.cells l.spots j.used.spots)
+    → l'.small ≡ l.small → l'.large ≡ l.large → OnlySpots j' j
     → world_at (with_cells s cells) j' l' es ≡ spot_steps (map (λ i. spot.Cell i (changed k (get_or w.core.state.cells i no_cell))) (cells_of w.core.state x y z)) w
 unfolding cells_of
-block_world k s x y z j j' l l' es cells b w placed block same changes a c trials marks small large =
-    set_world s j j' l l' es cells (change_each (marks_of j.marks j.trials) k is (logged_cells s.cells l.spots j.spots))
-    (changes ∙ ap (λ (q : Block). change_each (marks_of j.marks j.trials) k (block_cells s.columns q.width q.from q.height) (logged_cells s.cells l.spots j.spots)) block)
-    a c trials marks small large
+block_world k s x y z j j' l l' es cells b w placed block same changes a c kept =
+    set_world s j j' l l' es cells (change_each (marks_of j) k is (logged_cells s.cells l.spots j.used.spots))
+    (changes ∙ ap (λ (q : Block). change_each (marks_of j) k (block_cells s.columns q.width q.from q.height) (logged_cells s.cells l.spots j.used.spots)) block)
+    a c kept
     ∙ changes_world k (λ i. changed k (get_or s.cells i no_cell)) is 0 (world_at s j l es) rising (cells_inside s x y z placed) (λ i h. refl)
     ∙ ap (λ v. spot_steps (map (λ i. spot.Cell i (changed k (get_or v.core.state.cells i no_cell))) (cells_of v.core.state x y z)) v) same
   where

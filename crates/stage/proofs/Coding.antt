@@ -1,4 +1,5 @@
 -- Symbols coded one after the other.
+use Rattle.stage.specs.View.{open_trials}
 use Rattle.std.proofs.Common.{◌≡◌, ℕ, zero, suc, ◌+◌, ◌*◌, ◌/◌, ◌%◌, ◌^◌, ◌<◌, ◌≤◌, List, [], ◌∷◌, ◌++◌, sym, refl, ap, ◌∙◌, subst, ap₂, subst₂, arith}
 use Rattle.std.proofs.lemmas.Nat.{shr-shr}
 use Rattle.av1.specs.declared.tile.Cell.{Cell}
@@ -41,8 +42,8 @@ recount t p few many few' many' m n a b h = subst₂ (λ x y. Coded t p x y m n)
 pub coded_small : (first count s : ℕ) (m n : Moment) → count ≤ 4
     → ((memory : List Cell) → world_of n memory ≡ symbol_step (whole (table first count)) s (world_of m memory))
     → n.rooms ≡ m.rooms → m.rooms m.list ≤ n.rooms n.list + 1
-    → (count ≤ 4 → (n.stage.journal.small ≤ m.stage.journal.small + 1) × (n.stage.journal.large ≡ m.stage.journal.large))
-    → SameMemory n.log m.log → n.stage.journal.trials ≡ m.stage.journal.trials
+    → (count ≤ 4 → (n.stage.journal.used.small ≤ m.stage.journal.used.small + 1) × (n.stage.journal.used.large ≡ m.stage.journal.used.large))
+    → SameMemory n.log m.log → open_trials n.stage.journal ≡ open_trials m.stage.journal
     → Coded (one first count) (s ∷ []) 1 0 m n
 coded_small first count s m n h step rooms left few memory trials =
     let f = few h in
@@ -51,8 +52,8 @@ coded_small first count s m n h step rooms left few memory trials =
 pub coded_large : (first count s : ℕ) (m n : Moment) → 4 < count
     → ((memory : List Cell) → world_of n memory ≡ symbol_step (whole (table first count)) s (world_of m memory))
     → n.rooms ≡ m.rooms → m.rooms m.list ≤ n.rooms n.list + 1
-    → (4 < count → (n.stage.journal.large ≤ m.stage.journal.large + 1) × (n.stage.journal.small ≡ m.stage.journal.small))
-    → SameMemory n.log m.log → n.stage.journal.trials ≡ m.stage.journal.trials
+    → (4 < count → (n.stage.journal.used.large ≤ m.stage.journal.used.large + 1) × (n.stage.journal.used.small ≡ m.stage.journal.used.small))
+    → SameMemory n.log m.log → open_trials n.stage.journal ≡ open_trials m.stage.journal
     → Coded (one first count) (s ∷ []) 0 1 m n
 coded_large first count s m n h step rooms left many memory trials =
     let f = many h in

@@ -1,4 +1,8 @@
 -- The partition contexts, set byte by byte, and what that is in the model.
+use Rattle.stage.specs.Lanes.{OnlySpots}
+use Rattle.stage.proofs.Symbols.{same_marks, same_trials, none_open}
+use Rattle.stage.specs.View.{open_trials}
+use Rattle.std.proofs.lemmas.List.{length-reverse}
 use Rattle.std.proofs.Common.{◌≡◌, ℕ, zero, suc, ◌+◌, ◌/◌, ◌%◌, ◌<◌, ◌≤◌, Bool, true, false, cond, ◌&&◌, T, eqb, ltb, List, [], ◌∷◌, ◌++◌, map, length, get_or, set, replicate, Ok, Err, sym, refl, ap, ◌∙◌, ap₂, arith, eqb→eq, ltb→lt, lt→ltb}
 use mathlib.Core.Option.{none, some}
 use Rattle.std.proofs.lemmas.List.{length-append, length-map}
@@ -99,29 +103,21 @@ all_set b (x ∷ xs) = behind (length xs) 0 b xs ∙ ap (λ m. b ∷ m) (all_set
 
 -- a row starts
 module _ (memory : ℕ) (rooms : List Entry → ℕ) (s : State) (j : Journal) (l : Lent stage) (es : List Entry) where
-  pub row_refused : 0 < j.trials → (Err no.TrialOpen, world_at s j l es) ≡ row_step memory rooms (world_at s j l es)
+  pub row_refused : 0 < open_trials j → (Err no.TrialOpen, world_at s j l es) ≡ row_step memory rooms (world_at s j l es)
   unfolding row_step
-  row_refused h = refused_told memory rooms tt question.RowStart tt (world_at s j l es) no.TrialOpen (no_entries (rooms es) _ ∙ go j.trials h)
+  row_refused h = refused_told memory rooms tt question.RowStart tt (world_at s j l es) no.TrialOpen (no_entries (rooms es) _ ∙ go (marks_of j) (omega (arith, length-reverse j.marks.items)))
     where
-      go : (n : ℕ) → 0 < n → open_questions stage (world_at s j l es) question.RowStart tt (marks_of j.marks n) ≡ some no.TrialOpen
-      go zero h = absurd (omega arith)
-      go (suc n) h = refl
+      go : (ms : List Mark) → 0 < length ms → open_questions stage (world_at s j l es) question.RowStart tt ms ≡ some no.TrialOpen
+      go [] e = absurd (omega arith)
+      go (m ∷ ms) e = refl
 
-  pub row_started : j.trials ≡ 0 → length s.left ≡ 8 → (Ok tt, world_at (with_bytes side.Left s (replicate 8 0)) j l es) ≡ row_step memory rooms (world_at s j l es)
+  pub row_started : open_trials j ≡ 0 → length s.left ≡ 8 → (Ok tt, world_at (with_bytes side.Left s (replicate 8 0)) j l es) ≡ row_step memory rooms (world_at s j l es)
   unfolding row_step
   row_started h long =
-      accepted_told memory rooms tt tt question.RowStart tt (world_at s j l es) (world_at (with_bytes side.Left s (replicate 8 0)) j l es) (no_entries (rooms es) _ ∙ go j.trials h) refl after
+      accepted_told memory rooms tt tt question.RowStart tt (world_at s j l es) (world_at (with_bytes side.Left s (replicate 8 0)) j l es) (no_entries (rooms es) _ ∙ ap (open_questions stage (world_at s j l es) question.RowStart tt) (none_open j h)) refl after
     where
-      go : (n : ℕ) → n ≡ 0 → open_questions stage (world_at s j l es) question.RowStart tt (marks_of j.marks n) ≡ none
-      go zero h = refl
-      go (suc n) h = absurd (omega arith)
-
       w : World stage
       w = world_at s j l es
-
-      closed : (n : ℕ) → n ≡ 0 → marks_of j.marks n ≡ []
-      closed zero h = refl
-      closed (suc n) h = absurd (omega arith)
 
       cleared : at_each (λ i m. set m i 0) (from 0 8) s.left ≡ replicate 8 0
       cleared = ap (λ n. at_each (λ i m. set m i 0) (from 0 n) s.left) (sym long) ∙ all_set 0 s.left ∙ ap (λ n. replicate n 0) long
@@ -129,21 +125,21 @@ module _ (memory : ℕ) (rooms : List Entry → ℕ) (s : State) (j : Journal) (
       after : world_at (with_bytes side.Left s (replicate 8 0)) j l es ≡ spot_steps (map (λ i. spot_of side.Left i 0) (from 0 8)) (world_at s j l es)
       after =
           ap (λ z. world_at (with_bytes side.Left s z) j l es) (sym cleared)
-          ∙ ap (put_bytes side.Left w) (sym (ap (λ ms. set_bytes ms side.Left 0 (from 0 8) (bytes_in side.Left w)) (closed j.trials h) ∙ quiet_bytes side.Left 0 (from 0 8) (bytes_in side.Left w)))
+          ∙ ap (put_bytes side.Left w) (sym (ap (λ ms. set_bytes ms side.Left 0 (from 0 8) (bytes_in side.Left w)) (none_open j h) ∙ quiet_bytes side.Left 0 (from 0 8) (bytes_in side.Left w)))
           ∙ bytes_steps side.Left 0 8 0 w (omega arith)
 
 -- the world after bytes are set, from what became of its parts
 bytes_world : (k : Side) (s : State) (j j' : Journal) (l l' : Lent stage) (es : List Entry) (bytes : List ℕ) (m : LoggedBytes)
-    → logged_bytes bytes l'.spots j'.spots ≡ m
-    → l'.small ≡ l.small → l'.large ≡ l.large → j'.trials ≡ j.trials → j'.marks ≡ j.marks → j'.small ≡ j.small → j'.large ≡ j.large
+    → logged_bytes bytes l'.spots j'.used.spots ≡ m
+    → l'.small ≡ l.small → l'.large ≡ l.large → OnlySpots j' j
     → world_at (with_bytes k s bytes) j' l' es ≡ put_bytes k (world_at s j l es) m
-bytes_world k s j j' l l' es bytes m e a b trials marks small large =
+bytes_world k s j j' l l' es bytes m e a b kept =
     λ i. record {
       core = record { state = with_bytes k s (e i).bytes; entries = es };
-      small = lane (a i) (small i);
-      large = lane (b i) (large i);
+      small = lane (a i) (kept.small i);
+      large = lane (b i) (kept.large i);
       spots = (e i).spots;
-      marks = marks_of (marks i) (trials i);
+      marks = same_marks j' j kept i;
     }
 
 steps_append : (ps qs : List Spot) (w : World stage) → spot_steps (ps ++ qs) w ≡ spot_steps qs (spot_steps ps w)
@@ -152,21 +148,17 @@ steps_append (p ∷ ps) qs w = steps_append ps qs (spot_step p w)
 
 -- no trial is open: no lane is in use
 pub still_unused : (k : Side) (b : ℕ) (is : List ℕ) (j j' : Journal) (bytes bytes' : List ℕ) (spots spots' : List Spot)
-    → (j'.trials ≡ j.trials) × (j'.marks ≡ j.marks) × (j'.small ≡ j.small) × (j'.large ≡ j.large)
-    → logged_bytes bytes' spots' j'.spots ≡ set_bytes (marks_of j.marks j.trials) k b is (logged_bytes bytes spots j.spots)
-    → (j.trials ≡ 0 → (j.small ≡ 0) × (j.large ≡ 0) × (j.spots ≡ 0))
-    → j'.trials ≡ 0 → (j'.small ≡ 0) × (j'.large ≡ 0) × (j'.spots ≡ 0)
+    → OnlySpots j' j
+    → logged_bytes bytes' spots' j'.used.spots ≡ set_bytes (marks_of j) k b is (logged_bytes bytes spots j.used.spots)
+    → (open_trials j ≡ 0 → (j.used.small ≡ 0) × (j.used.large ≡ 0) × (j.used.spots ≡ 0))
+    → open_trials j' ≡ 0 → (j'.used.small ≡ 0) × (j'.used.large ≡ 0) × (j'.used.spots ≡ 0)
 still_unused k b is j j' bytes bytes' spots spots' kept changes quiet closed =
-    let before : j.trials ≡ 0 = sym kept.0 ∙ closed in
-    let unused : (j.small ≡ 0) × (j.large ≡ 0) × (j.spots ≡ 0) = quiet before in (
-      kept.2 ∙ unused.0,
-      kept.3 ∙ unused.1,
-      ap (λ (m : LoggedBytes). m.spots.used) (changes ∙ ap (λ ms. set_bytes ms k b is (logged_bytes bytes spots j.spots)) (none_open j.trials before) ∙ quiet_bytes k b is (logged_bytes bytes spots j.spots)) ∙ unused.2,
+    let before : open_trials j ≡ 0 = sym (same_trials j' j kept) ∙ closed in
+    let unused : (j.used.small ≡ 0) × (j.used.large ≡ 0) × (j.used.spots ≡ 0) = quiet before in (
+      kept.small ∙ unused.0,
+      kept.large ∙ unused.1,
+      ap (λ (m : LoggedBytes). m.spots.used) (changes ∙ ap (λ ms. set_bytes ms k b is (logged_bytes bytes spots j.used.spots)) (none_open j before) ∙ quiet_bytes k b is (logged_bytes bytes spots j.used.spots)) ∙ unused.2,
     )
-  where
-    none_open : (n : ℕ) → n ≡ 0 → marks_of j.marks n ≡ []
-    none_open zero h = refl
-    none_open (suc n) h = absurd (omega arith)
 
 -- the bytes of a square lie in the contexts
 pub spans_inside : (columns rows x y : ℕ) (z : BlockSize) → columns ≤ 1024 → splits 64 z ≡ true → tile.in_tile columns rows x y z ≡ true → (x / 2 + width z / 8 ≤ 512) × ((y % 16) / 2 + height z / 8 ≤ 8)
@@ -235,11 +227,11 @@ module _ (memory : ℕ) (rooms : List Entry → ℕ) (s : State) (j : Journal) (
     pub updated_world : (o : Unit {0}) (j' j'' : Journal) (l' l'' : Lent stage) (above left : List ℕ) (a b wide high : ℕ)
         → Ok o ≡ record_asked j l 0 0 (need 0 0 n)
         → (x / 2 + width z / 8 ≤ 512) × ((y % 16) / 2 + height z / 8 ≤ 8) → a ≡ above_byte sub → b ≡ left_byte sub → wide ≡ width z / 8 → high ≡ height z / 8
-        → logged_bytes above l'.spots j'.spots ≡ set_bytes (marks_of j.marks j.trials) side.Above a (from (x / 2) wide) (logged_bytes s.above l.spots j.spots)
-        → logged_bytes left l''.spots j''.spots ≡ set_bytes (marks_of j'.marks j'.trials) side.Left b (from ((y % 16) / 2) high) (logged_bytes s.left l'.spots j'.spots)
+        → logged_bytes above l'.spots j'.used.spots ≡ set_bytes (marks_of j) side.Above a (from (x / 2) wide) (logged_bytes s.above l.spots j.used.spots)
+        → logged_bytes left l''.spots j''.used.spots ≡ set_bytes (marks_of j') side.Left b (from ((y % 16) / 2) high) (logged_bytes s.left l'.spots j'.used.spots)
         → l'.small ≡ l.small → l'.large ≡ l.large → l''.small ≡ l'.small → l''.large ≡ l'.large
-        → (j'.trials ≡ j.trials) × (j'.marks ≡ j.marks) × (j'.small ≡ j.small) × (j'.large ≡ j.large)
-        → (j''.trials ≡ j'.trials) × (j''.marks ≡ j'.marks) × (j''.small ≡ j'.small) × (j''.large ≡ j'.large)
+        → OnlySpots j' j
+        → OnlySpots j'' j'
         → (Ok tt, world_at (with_bytes side.Left (with_bytes side.Above s above) left) j'' l'' es) ≡ update_step memory rooms x y z sub (world_at s j l es)
     unfolding update_step
     updated_world o j' j'' l' l'' above left a b wide high asked inside ab lb we he over beside a1 b1 a2 b2 kept kept' =
@@ -252,14 +244,14 @@ module _ (memory : ℕ) (rooms : List Entry → ℕ) (s : State) (j : Journal) (
 
         first : world_at (with_bytes side.Above s above) j' l' es ≡ spot_steps (map (λ i. spot_of side.Above i (above_byte sub)) (from (x / 2) (width z / 8))) (world_at s j l es)
         first =
-            bytes_world side.Above s j j' l l' es above _ over a1 b1 kept.0 kept.1 kept.2 kept.3
-            ∙ ap₂ (λ v n. put_bytes side.Above (world_at s j l es) (set_bytes (marks_of j.marks j.trials) side.Above v (from (x / 2) n) (logged_bytes s.above l.spots j.spots))) ab we
+            bytes_world side.Above s j j' l l' es above _ over a1 b1 kept
+            ∙ ap₂ (λ v n. put_bytes side.Above (world_at s j l es) (set_bytes (marks_of j) side.Above v (from (x / 2) n) (logged_bytes s.above l.spots j.used.spots))) ab we
             ∙ bytes_steps side.Above (above_byte sub) (width z / 8) (x / 2) (world_at s j l es) inside.0
 
         second : world_at (with_bytes side.Left (with_bytes side.Above s above) left) j'' l'' es
             ≡ spot_steps (map (λ i. spot_of side.Left i (left_byte sub)) (from ((y % 16) / 2) (height z / 8))) (spot_steps (map (λ i. spot_of side.Above i (above_byte sub)) (from (x / 2) (width z / 8))) (world_at s j l es))
         second =
-            bytes_world side.Left (with_bytes side.Above s above) j' j'' l' l'' es left _ beside a2 b2 kept'.0 kept'.1 kept'.2 kept'.3
-            ∙ ap₂ (λ v n. put_bytes side.Left one (set_bytes (marks_of j'.marks j'.trials) side.Left v (from ((y % 16) / 2) n) (logged_bytes s.left l'.spots j'.spots))) lb he
+            bytes_world side.Left (with_bytes side.Above s above) j' j'' l' l'' es left _ beside a2 b2 kept'
+            ∙ ap₂ (λ v n. put_bytes side.Left one (set_bytes (marks_of j') side.Left v (from ((y % 16) / 2) n) (logged_bytes s.left l'.spots j'.used.spots))) lb he
             ∙ bytes_steps side.Left (left_byte sub) (height z / 8) ((y % 16) / 2) one inside.1
             ∙ ap (spot_steps (map (λ i. spot_of side.Left i (left_byte sub)) (from ((y % 16) / 2) (height z / 8)))) first

@@ -1,4 +1,5 @@
 -- A partition of the stage is the model's.
+use Rattle.stage.specs.View.{open_trials}
 use Rattle.std.proofs.Common.{◌≡◌, ℕ, zero, suc, ◌+◌, ◌-◌, ◌*◌, ◌<◌, Bool, true, false, cond, not, ◌&&◌, eqb, leb, List, [], ◌∷◌, ◌++◌, length, Some, None, Ok, Err, Result, sym, refl, ap, ◌∙◌, ap₂, arith}
 use mathlib.Core.Option.{Option}
 use mir.Val.{bool_byte}
@@ -48,10 +49,10 @@ pub edge_world : (s : State) (j : Journal) (l : Lent stage) (es es' : List Entry
 edge_world s j l es es' t k v e =
     λ i. record {
       core = record { state = s; entries = e i };
-      small = log_none j.marks j.trials (lane l.small j.small) [] refl i;
-      large = log_none j.marks j.trials (lane l.large j.large) [] refl i;
-      spots = lane l.spots j.spots;
-      marks = marks_of j.marks j.trials;
+      small = log_none j (lane l.small j.used.small) [] refl i;
+      large = log_none j (lane l.large j.used.large) [] refl i;
+      spots = lane l.spots j.used.spots;
+      marks = marks_of j;
     }
 
 -- the symbol at an edge

@@ -1,4 +1,5 @@
 -- A segment decision of the stage is the model's.
+use Rattle.stage.specs.Lanes.{OnlySpots}
 use Rattle.std.proofs.Common.{◌≡◌, ℕ, suc, ◌+◌, ◌*◌, ◌<◌, ◌≤◌, min, Bool, true, false, cond, not, ◌||◌, ltb, leb, List, [], map, length, get_or, take, Some, None, Option, is_some, is_none, Ok, Err, Result, sym, refl, ap, ◌∙◌, ap₂, arith, le→leb, lt→ltb, leb→le}
 use mathlib.Core.Option.{none, some}
 use mir.Val.{bool_byte}
@@ -174,17 +175,17 @@ module _ (memory : ℕ) (room : List Entry → ℕ) (s : State) (j : Journal) (l
       → world_at s' j' l' es' ≡ symbol_steps (segment_tree skip number s.last near) (segment_path skip s.last near d) (world_at s j l es)
       → Ok b ≡ block_asked s.columns s.rows memory 64 x y z → (skip ≡ false → id ≤ s.last) → r ≡ room es → Ok u ≡ record_asked j l r count (need 0 count (area b))
       → columns ≡ s'.columns → part ≡ s'.cells → after ≡ cells
-      → logged_cells cells l''.spots j''.spots ≡ change_each (marks_of j'.marks j'.trials) (change.Segment d) (block_cells columns b.width b.from b.height) (logged_cells part l'.spots j'.spots)
-      → l''.small ≡ l'.small → l''.large ≡ l'.large → j''.trials ≡ j'.trials → j''.marks ≡ j'.marks → j''.small ≡ j'.small → j''.large ≡ j'.large
+      → logged_cells cells l''.spots j''.used.spots ≡ change_each (marks_of j') (change.Segment d) (block_cells columns b.width b.from b.height) (logged_cells part l'.spots j'.used.spots)
+      → l''.small ≡ l'.small → l''.large ≡ l'.large → OnlySpots j'' j'
       → (Ok (count, d), world_at (with_cells s' after) j'' l'' es') ≡ segment_step memory room x y z skip id (world_at s j l es)
-  accepted s' j' j'' l' l'' es' part cells after number near d columns r b u wide high table_number foretold set coded block active same recorded across own whole_map changes a c trials marks small large =
+  accepted s' j' j'' l' l'' es' part cells after number near d columns r b u wide high table_number foretold set coded block active same recorded across own whole_map changes a c kept =
       accepted_segment memory room x y z skip id (world_at s j l es) (world_at (with_cells s' after) j'' l'' es') (count, d)
       (asked_segment b r block same ∙ ap₂ (λ o k. or_else o (refused_by k)) (allowed_active skip id s.last active) (sym recorded)) (
         ap₂ (λ m k. (m, k)) (sent_length skip s.words (segment_number s x y) s.last (prediction s x y) (segment_decided skip (prediction s x y) id)) (sym meant),
         block_after (question.Segment x y z skip) (segment_decided skip (prediction s x y) id) (change.Segment d) memory s s' j j' j'' l l' l'' es es' x y z part cells after columns b
             (λ v. ap (λ m. map (λ i. spot.Cell i (changed (change.Segment m) (get_or v.cells i no_cell))) (cells_of v x y z)) meant) wide high
             (coded ∙ (λ i. symbol_steps (segment_tree skip (table_number i) s.last (foretold i)) (segment_path skip s.last (foretold i) (meant i)) (world_at s j l es)))
-            block across own whole_map changes a c trials marks small large,
+            block across own whole_map changes a c kept,
       )
     where
       meant : d ≡ segment_decided skip (prediction s x y) id

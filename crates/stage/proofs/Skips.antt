@@ -1,4 +1,5 @@
 -- A skip decision of the stage is the model's.
+use Rattle.stage.specs.Lanes.{OnlySpots}
 use Rattle.std.proofs.Common.{◌≡◌, ℕ, ◌*◌, ◌≤◌, Bool, true, List, length, take, Ok, Err, sym, refl, ap, ◌∙◌}
 use mathlib.Core.Option.{none}
 use mir.Val.{bool_byte}
@@ -48,15 +49,15 @@ module _ (memory : ℕ) (room : List Entry → ℕ) (s : State) (j : Journal) (l
       → world_at s' j' l' es' ≡ symbol_step (whole (table (2 * ctx) 2)) (bool_byte flag) (world_at s j l es)
       → Ok b ≡ block_asked s.columns s.rows memory 64 x y z → r ≡ room es → Ok u ≡ record_asked j l r 1 (need 1 0 (area b))
       → columns ≡ s'.columns → part ≡ s'.cells → after ≡ cells
-      → logged_cells cells l''.spots j''.spots ≡ change_each (marks_of j'.marks j'.trials) (change.Skip flag) (block_cells columns b.width b.from b.height) (logged_cells part l'.spots j'.spots)
-      → l''.small ≡ l'.small → l''.large ≡ l'.large → j''.trials ≡ j'.trials → j''.marks ≡ j'.marks → j''.small ≡ j'.small → j''.large ≡ j'.large
+      → logged_cells cells l''.spots j''.used.spots ≡ change_each (marks_of j') (change.Skip flag) (block_cells columns b.width b.from b.height) (logged_cells part l'.spots j'.used.spots)
+      → l''.small ≡ l'.small → l''.large ≡ l'.large → OnlySpots j'' j'
       → (Ok 1, world_at (with_cells s' after) j'' l'' es') ≡ decision_step memory room (question.Skip x y z) flag (world_at s j l es)
-  accepted s' j' j'' l' l'' es' part cells after ctx columns r b u wide high context coded block same recorded across own whole_map changes a c trials marks small large =
+  accepted s' j' j'' l' l'' es' part cells after ctx columns r b u wide high context coded block same recorded across own whole_map changes a c kept =
       accepted_step memory room (question.Skip x y z) flag (world_at s j l es) (world_at (with_cells s' after) j'' l'' es') 1
       (skip_refusal memory room s j l es x y z flag ∙ asked_rest memory room s j l es x y z none 1 1 0 r b block same ∙ ap refused_by (sym recorded)) refl
       (block_after (question.Skip x y z) flag (change.Skip flag) memory s s' j j' j'' l l' l'' es es' x y z part cells after columns b (λ v. refl) wide high
       (coded ∙ ap (λ n. symbol_step (whole (table (2 * n) 2)) (bool_byte flag) (world_at s j l es)) context)
-      block across own whole_map changes a c trials marks small large)
+      block across own whole_map changes a c kept)
 
 -- what an accepted skip decision makes of the map
 pub flag_set : (memory : ℕ) (room : List Entry → ℕ) (w v : World stage) (t : Tile) (before after : List Cell) (x y : ℕ) (z : BlockSize) (flag : Bool)

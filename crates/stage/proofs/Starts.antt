@@ -1,5 +1,5 @@
 -- What a start refuses, and the world that it makes.
-use Rattle.std.proofs.Common.{◌≡◌, ℕ, ◌*◌, Bool, true, false, cond, ◌&&◌, leb, List, [], take, drop, replicate, Ok, Err, Result, ap, ◌∙◌, ap₂}
+use Rattle.std.proofs.Common.{◌≡◌, ℕ, ◌*◌, Bool, true, false, cond, ◌&&◌, leb, List, [], reverse, take, drop, replicate, Ok, Err, Result, ap, ◌∙◌, ap₂}
 use mathlib.Core.Option.{Option, some}
 use Rattle.std.proofs.lemmas.List.{length-replicate, take_at}
 use Rattle.av1.specs.declared.refusal.Refusal.{Refusal}
@@ -8,11 +8,13 @@ use Rattle.av1.specs.declared.tile.Cell.{Cell}
 use Rattle.av1.specs.Sides.{side}
 use Rattle.av1.specs.Tiles.{no_cell, sides_asked}
 use Rattle.cdf.specs.Start.{start_words}
+use Rattle.journal.specs.declared.Counts.{Counts}
 use Rattle.journal.specs.declared.Mark.{Mark}
 use Rattle.model.specs.Decisions.{stage, start_asked}
 use Rattle.model.specs.Runs.{World, Lent, fresh, or_else, unless}
 use Rattle.model.specs.Worked.{start}
-use Rattle.stage.specs.View.{lane, marks_of, cleared}
+use Rattle.stage.specs.Questions.{need}
+use Rattle.stage.specs.View.{lane, cleared}
 
 pub sides_refused : (columns rows last memory : ℕ) (e : Refusal) → Err e ≡ sides_asked columns rows → some e ≡ start_asked columns rows last memory
 sides_refused columns rows last memory e h = go (side columns && side rows) h
@@ -25,26 +27,26 @@ sides_refused columns rows last memory e h = go (side columns && side rows) h
     go false k = cc
 
 -- the world of a stage whose parts are as at the start
-pub started : (columns rows last cols high : ℕ) (words above left : List ℕ) (ms : List Mark) (trials small large spots : ℕ) (memory cells : List Cell) (l : Lent stage)
+pub started : (columns rows last cols high : ℕ) (words above left : List ℕ) (ms : List Mark) (used : Counts) (memory cells : List Cell) (l : Lent stage)
     → cols ≡ columns → high ≡ rows → words ≡ start_words → above ≡ replicate 512 0 → left ≡ replicate 8 0
-    → trials ≡ 0 → small ≡ 0 → large ≡ 0 → spots ≡ 0 → cells ≡ cleared (cols * high) memory
+    → ms ≡ [] → used ≡ need 0 0 0 → cells ≡ cleared (cols * high) memory
     → ◌≡◌ {A = World stage}
     (record {
       core = record { state = record { columns = cols; rows = high; last = last; words = words; above = above; left = left; cells = take (cols * high) cells }; entries = [] };
-      small = lane l.small small;
-      large = lane l.large large;
-      spots = lane l.spots spots;
-      marks = marks_of ms trials;
+      small = lane l.small used.small;
+      large = lane l.large used.large;
+      spots = lane l.spots used.spots;
+      marks = reverse ms;
     })
     (fresh stage (start columns rows last) l)
 unfolding start
-started columns rows last cols high words above left ms trials small large spots memory cells l p q a b c d e f g h =
+started columns rows last cols high words above left ms used memory cells l p q a b c d e h =
     λ i. record {
       core = record { state = record { columns = p i; rows = q i; last = last; words = a i; above = b i; left = c i; cells = all i }; entries = [] };
-      small = lane l.small (e i);
-      large = lane l.large (f i);
-      spots = lane l.spots (g i);
-      marks = marks_of ms (d i);
+      small = lane l.small (e i).small;
+      large = lane l.large (e i).large;
+      spots = lane l.spots (e i).spots;
+      marks = reverse (d i);
     }
   where
     all : take (cols * high) cells ≡ replicate (columns * rows) no_cell

@@ -1,6 +1,7 @@
 -- A symbol in the stage: its window is logged, its entry joins the record, and its table adapts.
-use Rattle.std.proofs.Common.{◌≡◌, ℕ, zero, suc, ◌+◌, ◌<◌, ◌≤◌, Bool, true, false, cond, not, ◌&&◌, ltb, leb, List, [], ◌∷◌, ◌++◌, length, get_or, take, drop, set, replicate, Some, None, sym, refl, ap, ◌∙◌, ap₂, arith, le→leb, lt→ltb, leb→le}
-use Rattle.std.proofs.lemmas.List.{length-drop, get_or-drop, take_more, take_more_set}
+use Rattle.std.proofs.Common.{◌≡◌, ℕ, zero, suc, ◌+◌, ◌<◌, ◌≤◌, Bool, true, false, cond, not, ◌&&◌, ltb, leb, List, [], ◌∷◌, ◌++◌, length, reverse, get_or, take, drop, set, replicate, Some, None, sym, refl, ap, ◌∙◌, ap₂, arith, le→leb, lt→ltb, leb→le}
+use Rattle.std.proofs.lemmas.List.{length-drop, length-reverse, get_or-drop, take_more, take_more_set}
+use Rattle.arrayvec.specs.ArrayVec.{ArrayVec}
 use Rattle.cdf.specs.declared.entry.Entry.{Entry}
 use Rattle.cdf.specs.Entries.{is_entry, entry_if}
 use Rattle.cdf.specs.Layout.{in_layout, words_in_all}
@@ -14,7 +15,26 @@ use Rattle.model.specs.Decisions.{State, stage, window_at, add_if, with_words}
 use Rattle.model.specs.Runs.{Lane, Lent, logged}
 use Rattle.record.specs.Sinks.{put_list}
 use Rattle.stage.specs.declared.state.Journal.{Journal}
-use Rattle.stage.specs.View.{lane, marks_of, world_at}
+use Rattle.stage.specs.Lanes.{OnlySpots}
+use Rattle.stage.specs.View.{lane, marks_of, open_trials, world_at}
+
+-- no mark is open
+pub none_open : (j : Journal) → open_trials j ≡ 0 → marks_of j ≡ []
+none_open j e = ap reverse (length_zero j.marks.items e)
+  where
+    length_zero : (ms : List Mark) → length ms ≡ 0 → ms ≡ []
+    length_zero [] h = refl
+    length_zero (m ∷ ms) h = absurd (omega arith)
+
+-- spots are logged beside the same marks
+pub same_marks : (j k : Journal) → OnlySpots j k → marks_of j ≡ marks_of k
+same_marks j k h = ap (λ (v : ArrayVec Mark). reverse v.items) h.marks
+
+pub same_trials : (j k : Journal) → OnlySpots j k → open_trials j ≡ open_trials k
+same_trials j k h = ap (λ (v : ArrayVec Mark). length v.items) h.marks
+
+pub only_spots_then : (i j k : Journal) → OnlySpots i j → OnlySpots j k → OnlySpots i k
+only_spots_then i j k a b = record { marks = a.marks ∙ b.marks; small = a.small ∙ b.small; large = a.large ∙ b.large }
 
 -- one word more of a copied window
 pub copied_more : (copy words : List ℕ) (first i : ℕ) → i < length copy → first + i < length words → take i copy ≡ take i (drop first words)
@@ -40,13 +60,15 @@ large_inside first n h l = go (leb n 4) (not-T→false (leb n 4) (λ t. let k : 
     go false e p = leb→le (first + 16) words_in_all (true→T _ (inside_large first (replicate 16 0) p.0 (omega arith)))
 
 -- what is logged: nothing while no trial is open
-pub log_quiet : {R : Type 0} (ms : List Mark) (trials : ℕ) (l : Lane R) (rs : List R) → trials ≡ 0 → l ≡ log_if (marks_of ms trials) l rs
-log_quiet ms zero l rs e = refl
-log_quiet ms (suc n) l rs e = absurd (omega arith)
+pub log_quiet : {R : Type 0} (j : Journal) (l : Lane R) (rs : List R) → open_trials j ≡ 0 → l ≡ log_if (marks_of j) l rs
+log_quiet j l rs e = ap (λ ms. log_if ms l rs) (sym (none_open j e))
 
-pub log_open : {R : Type 0} (ms : List Mark) (trials : ℕ) (l : Lane R) (rs : List R) → 0 < trials → logged l rs ≡ log_if (marks_of ms trials) l rs
-log_open ms zero l rs h = absurd (omega arith)
-log_open ms (suc n) l rs h = refl
+pub log_open : {R : Type 0} (j : Journal) (l : Lane R) (rs : List R) → 0 < open_trials j → logged l rs ≡ log_if (marks_of j) l rs
+log_open {R} j l rs h = go (marks_of j) (omega (arith, length-reverse j.marks.items))
+  where
+    go : (ms : List Mark) → 0 < length ms → logged l rs ≡ log_if ms l rs
+    go [] e = absurd (omega arith)
+    go (m ∷ ms) e = refl
 
 -- the lane that a table's window goes to
 pub small_window : (w : Words) (first n : ℕ) → n ≤ 4 → small_log (whole (table first n)) w ≡ window_at 4 w first ∷ []
@@ -61,12 +83,12 @@ large_window w first n h = ap (λ b. add_if (not b) (window_at 16 w first) []) (
 pub no_large_window : (w : Words) (first n : ℕ) → n ≤ 4 → large_log (whole (table first n)) w ≡ []
 no_large_window w first n h = ap (λ b. add_if (not b) (window_at 16 w first) []) (T→true (leb n 4) (le→leb n 4 h))
 
-pub log_none : {R : Type 0} (ms : List Mark) (trials : ℕ) (l : Lane R) (rs : List R) → rs ≡ [] → l ≡ log_if (marks_of ms trials) l rs
-log_none ms trials l rs e = none trials ∙ sym (ap (λ z. log_if (marks_of ms trials) l z) e)
+pub log_none : {R : Type 0} (j : Journal) (l : Lane R) (rs : List R) → rs ≡ [] → l ≡ log_if (marks_of j) l rs
+log_none {R} j l rs e = none (marks_of j) ∙ sym (ap (λ z. log_if (marks_of j) l z) e)
   where
-    none : (n : ℕ) → l ≡ log_if (marks_of ms n) l []
-    none zero = refl
-    none (suc n) = refl
+    none : (ms : List Mark) → l ≡ log_if ms l []
+    none [] = refl
+    none (m ∷ ms) = refl
 
 -- the words and the entry of a symbol that the table has
 pub symbol_words : (w v : Words) (t : Table) (s : ℕ) → in_layout t ≡ true → s < t.count → v ≡ cond (in_layout t && ltb s t.count) (updated w t s) w → v ≡ updated w t s
@@ -85,15 +107,15 @@ put_lawful e room l m h some same = same ∙ ap₂ (λ a b. cond a (cond b (l ++
 pub symbol_world : (s : State) (j j' : Journal) (l l' : Lent stage) (es es' : List Entry) (words : Words) (t : Table) (v : ℕ)
     → words ≡ updated s.words t v
     → es' ≡ es ++ entry_of s.words (whole t) v ∷ []
-    → lane l'.small j'.small ≡ log_if (marks_of j.marks j.trials) (lane l.small j.small) (small_log (whole t) s.words)
-    → lane l'.large j'.large ≡ log_if (marks_of j.marks j.trials) (lane l.large j.large) (large_log (whole t) s.words)
-    → l'.spots ≡ l.spots → j'.spots ≡ j.spots → j'.trials ≡ j.trials → j'.marks ≡ j.marks
+    → lane l'.small j'.used.small ≡ log_if (marks_of j) (lane l.small j.used.small) (small_log (whole t) s.words)
+    → lane l'.large j'.used.large ≡ log_if (marks_of j) (lane l.large j.used.large) (large_log (whole t) s.words)
+    → l'.spots ≡ l.spots → j'.used.spots ≡ j.used.spots → j'.marks ≡ j.marks
     → world_at (with_words s words) j' l' es' ≡ symbol_step (whole t) v (world_at s j l es)
-symbol_world s j j' l l' es es' words t v w e small large spots used trials marks =
+symbol_world s j j' l l' es es' words t v w e small large spots used marks =
     λ i. record {
       core = record { state = with_words s (w i); entries = e i };
       small = small i;
       large = large i;
       spots = lane (spots i) (used i);
-      marks = marks_of (marks i) (trials i);
+      marks = reverse (marks i).items;
     }

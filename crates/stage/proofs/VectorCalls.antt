@@ -1,4 +1,5 @@
 -- A vector decision of the stage is the model's.
+use Rattle.stage.specs.View.{open_trials}
 use Rattle.std.proofs.Common.{◌≡◌, ℕ, zero, suc, ◌+◌, ◌*◌, ◌/◌, ◌%◌, ◌<◌, ◌≤◌, Bool, true, false, not, ◌&&◌, T, eqb, leb, List, [], ◌∷◌, ◌++◌, length, ℤ, pos, negsuc, Ok, Err, sym, refl, ap, ◌∙◌, subst, ap₂, subst₂, arith, le→leb, eqb→eq, leb→le}
 use mathlib.Core.Option.{Option}
 use lib.Dec.{eqb-suc-zero}
@@ -184,7 +185,7 @@ module _ (memory : ℕ) (room : List Entry → ℕ) (s : State) (j : Journal) (l
   rest = unless (leb (length (vector_path p (row, col))) (room es)) no.Room
 
   abbrev opened : Option Refusal
-  opened = open_questions stage (world_at s j l es) (question.Vector p) (row, col) (marks_of j.marks j.trials)
+  opened = open_questions stage (world_at s j l es) (question.Vector p) (row, col) (marks_of j)
 
   pub refused_range : (magnitude row ≤ 16384 → magnitude col ≤ 16384 → ⊥) → (Err no.VectorRange, world_at s j l es) ≡ decision_step memory room (question.Vector p) (row, col) (world_at s j l es)
   refused_range h =

@@ -1,5 +1,5 @@
 -- A stage with the memory that is lent to it and the list of a sink, as a world of the model.
-use Rattle.std.specs.Prelude.{ℕ, zero, suc, ◌*◌, List, [], ◌∷◌, ◌++◌, take, drop, replicate, Ok, Err, Result, slice_index_or}
+use Rattle.std.specs.Prelude.{ℕ, ◌*◌, List, ◌++◌, reverse, length, take, drop, replicate, Ok, Err, Result}
 use Rattle.std.proofs.Math.Option.{Option, none, some}
 use Rattle.av1.specs.declared.refusal.Refusal.{Refusal}
 use Rattle.av1.specs.declared.tile.Cell.{Cell}
@@ -14,12 +14,14 @@ use Rattle.stage.specs.declared.state.Stage.{Stage}
 use Rattle.stage.specs.declared.state.Trial.{Trial}
 
 abbrev pub no_mark : Mark
-no_mark = record { small = 0; large = 0; spots = 0; entries = 0 }
+no_mark = record { used = record { small = 0; large = 0; spots = 0 }; entries = 0 }
 
--- the marks of the open trials, the innermost first
-abbrev pub marks_of : List Mark → ℕ → List Mark
-marks_of ms zero = []
-marks_of ms (suc n) = slice_index_or ms n no_mark ∷ marks_of ms n
+-- how many trials are open, and their marks, the innermost first
+abbrev pub open_trials : Journal → ℕ
+open_trials j = length j.marks.items
+
+abbrev pub marks_of : Journal → List Mark
+marks_of j = reverse j.marks.items
 
 abbrev pub lane : {R : Type 0} → List R → ℕ → Lane R
 lane l n = record { memory = l; used = n }
@@ -48,10 +50,10 @@ abbrev pub world_at : State → Journal → Lent stage → List Entry → World 
 world_at s j l entries =
     record {
       core = record { state = s; entries = entries };
-      small = lane l.small j.small;
-      large = lane l.large j.large;
-      spots = lane l.spots j.spots;
-      marks = marks_of j.marks j.trials;
+      small = lane l.small j.used.small;
+      large = lane l.large j.used.large;
+      spots = lane l.spots j.used.spots;
+      marks = marks_of j;
     }
 
 abbrev pub world : Stage → List Cell → Lent stage → List Entry → World stage

@@ -1,8 +1,9 @@
 ghost use Rattle.std.specs.Prelude.{◌≡◌, ◌≤◌, length};
 
+use arrayvec::ArrayVec;
 use av1::Tile;
 use cdf::Tables;
-use journal::Mark;
+use journal::{Counts, Mark};
 
 mod alphas;
 mod back;
@@ -27,14 +28,11 @@ pub(crate) struct Contexts {
     left: [u8; 8],
 }
 
-/// How many trials are open, the moment at which each was opened, and the undo records in use in each lane.
+/// The moments at which the open trials were opened, the innermost last, and the undo records in use in each lane.
 #[derive(Drop)]
 pub(crate) struct Journal {
-    trials: usize,
-    marks: [Mark; 16],
-    small: usize,
-    large: usize,
-    spots: usize,
+    marks: ArrayVec<Mark, 16>,
+    used: Counts,
 }
 
 /// An open trial. It carries its depth alone, and can be neither copied nor let go: `Stage::keep` ends it.
@@ -51,8 +49,7 @@ pub struct Stage {
     contexts: Contexts,
     journal: Journal,
     ghost ends: { last ≤ 7 },
-    ghost few: { journal.trials ≤ 16 },
     ghost over: { length contexts.above ≡ 512 },
     ghost beside: { length contexts.left ≡ 8 },
-    ghost quiet: { (journal.trials ≡ 0 → (journal.small ≡ 0) × (journal.large ≡ 0) × (journal.spots ≡ 0)) },
+    ghost quiet: { (length journal.marks.items ≡ 0 → (journal.used.small ≡ 0) × (journal.used.large ≡ 0) × (journal.used.spots ≡ 0)) },
 }

@@ -4,11 +4,11 @@ ghost use Rattle.model.specs.Calls.{decision_step};
 ghost use Rattle.model.specs.declared.Question.TheVariants as question;
 ghost use Rattle.stage.specs.Alphas.{scale_count, scale_step};
 ghost use Rattle.stage.specs.Lanes.{SameMemory};
-ghost use Rattle.stage.specs.View.{world, lanes};
+ghost use Rattle.stage.specs.View.{lanes, open_trials, world};
 
 use crate::state::Stage;
 use av1::{CFLParams, Refusal};
-use journal::Log;
+use journal::{Counts, Log};
 use record::Sink;
 
 impl Stage {
@@ -21,13 +21,13 @@ impl Stage {
     )
         requires within { IfSome scale (λ s. (s.0 < 6) × (s.1 < 16)) }
         requires room { scale_count scale ≤ S.Sink.rooms sink.old (S.Sink.list sink.old) }
-        requires large { 0 < self.old.journal.trials → self.old.journal.large + scale_count scale ≤ length log.old.large.now }
+        requires large { 0 < open_trials self.old.journal → self.old.journal.used.large + scale_count scale ≤ length log.old.large.now }
         ensures step { (memory : List Cell) → world self.new memory (lanes log.new) (S.Sink.list sink.new) ≡ scale_step scale (world self.old memory (lanes log.old) (S.Sink.list sink.old)) }
         ensures rooms { S.Sink.rooms sink.new ≡ S.Sink.rooms sink.old }
         ensures left { S.Sink.rooms sink.old (S.Sink.list sink.old) ≤ S.Sink.rooms sink.new (S.Sink.list sink.new) + scale_count scale }
-        ensures many { self.new.journal.large ≤ self.old.journal.large + scale_count scale }
+        ensures many { self.new.journal.used.large ≤ self.old.journal.used.large + scale_count scale }
         ensures memory { SameMemory log.new log.old }
-        ensures trials { self.new.journal.trials ≡ self.old.journal.trials }
+        ensures trials { open_trials self.new.journal ≡ open_trials self.old.journal }
     {
         if let Some((context, index)) = scale {
             self.symbol(sink, log, 206 + 16 * context, 16, index);
@@ -52,8 +52,16 @@ impl Stage {
             return Err(Refusal::Alphas);
         };
         let entries = 1 + cfl.count_scales();
-        self.journal
-            .ask_record(log, sink.room(), entries, 0, entries, 0)?;
+        self.journal.ask_record(
+            log,
+            sink.room(),
+            entries,
+            Counts {
+                small: 0,
+                large: entries,
+                spots: 0,
+            },
+        )?;
         let [first, second] = cfl.scales();
         self.symbol(sink, log, 22, 8, cfl.joint_sign());
         self.code_scale(sink, log, first);

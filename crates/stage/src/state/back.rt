@@ -22,14 +22,14 @@ impl Stage {
     {
         self.tile.ask_map(memory)?;
         let journal = &self.journal;
-        if journal.small > log.small.len()
-            || journal.large > log.large.len()
-            || journal.spots > log.spots.len()
+        if journal.used.small > log.small.len()
+            || journal.used.large > log.large.len()
+            || journal.used.spots > log.spots.len()
         {
             return Err(Refusal::LogRoom);
         }
         journal.ask_innermost(depth)?;
-        let mark = journal.marks[journal.trials - 1];
+        let mark = journal.marks.as_slice()[journal.marks.len() - 1];
         if entries < mark.entries {
             return Err(Refusal::EntriesGone);
         }
@@ -53,20 +53,18 @@ impl Stage {
     {
         let mark = self.ask_back(sink.count(), map.len(), log, depth)?;
         let units = self.tile.units();
-        let _ = undo(log.small, mark.small, self.journal.small, &mut self.tables);
-        let _ = undo(log.large, mark.large, self.journal.large, &mut self.tables);
+        let _ = undo(log.small, mark.used.small, self.journal.used.small, &mut self.tables);
+        let _ = undo(log.large, mark.used.large, self.journal.used.large, &mut self.tables);
         let _ = undo_spots(
             log.spots,
-            mark.spots,
-            self.journal.spots,
+            mark.used.spots,
+            self.journal.used.spots,
             &mut self.contexts.above,
             &mut self.contexts.left,
             &mut map[0..units],
         );
         let _ = sink.cut(mark.entries);
-        self.journal.small = mark.small;
-        self.journal.large = mark.large;
-        self.journal.spots = mark.spots;
+        self.journal.used = mark.used;
         Ok(())
     }
 }

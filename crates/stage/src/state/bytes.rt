@@ -1,7 +1,8 @@
 ghost use Rattle.std.specs.Prelude.{◌≡◌, ℕ, ◌+◌, ◌<◌, ◌≤◌, List, length};
 ghost use Rattle.cdf.specs.Lists.{from};
 ghost use Rattle.stage.specs.Contexts.{side_length, spot_of, logged_bytes, set_bytes};
-ghost use Rattle.stage.specs.View.{marks_of};
+ghost use Rattle.stage.specs.Lanes.{OnlySpots};
+ghost use Rattle.stage.specs.View.{marks_of, open_trials};
 
 use crate::state::Journal;
 use journal::Spot;
@@ -36,10 +37,10 @@ impl Journal {
     )
         requires inside { first + count ≤ length bytes.old }
         requires all { length bytes.old ≡ side_length side }
-        requires room { 0 < self.old.trials → self.old.spots + count ≤ length spots.old }
-        ensures bytes { logged_bytes bytes.new spots.new self.new.spots ≡ set_bytes (marks_of self.old.marks self.old.trials) side byte (from first count) (logged_bytes bytes.old spots.old self.old.spots) }
-        ensures kept { (self.new.trials ≡ self.old.trials) × (self.new.marks ≡ self.old.marks) × (self.new.small ≡ self.old.small) × (self.new.large ≡ self.old.large) }
-        ensures used { self.new.spots ≤ self.old.spots + count }
+        requires room { 0 < open_trials self.old → self.old.used.spots + count ≤ length spots.old }
+        ensures bytes { logged_bytes bytes.new spots.new self.new.used.spots ≡ set_bytes (marks_of self.old) side byte (from first count) (logged_bytes bytes.old spots.old self.old.used.spots) }
+        ensures kept { OnlySpots self.new self.old }
+        ensures used { self.new.used.spots ≤ self.old.used.spots + count }
     {
         for i in 0..count {
             let was = bytes[first + i];

@@ -3,7 +3,8 @@ ghost use Rattle.cdf.specs.Lists.{from};
 ghost use Rattle.model.specs.Calls.{log_if};
 ghost use Rattle.model.specs.Decisions.{block_cells};
 ghost use Rattle.stage.specs.Cells.{changed, logged_cells, change_one, change_each};
-ghost use Rattle.stage.specs.View.{lane, marks_of};
+ghost use Rattle.stage.specs.Lanes.{OnlySpots};
+ghost use Rattle.stage.specs.View.{lane, marks_of, open_trials};
 
 use crate::state::Journal;
 use crate::state::symbols::log_record;
@@ -35,25 +36,25 @@ fn changed(cell: Cell, change: Change) -> Cell
 impl Journal {
     // Logs what a cell or a context byte was, while a trial is open.
     pub(super) fn log_spot(&mut self, spots: &mut [Spot], was: Spot)
-        requires { 0 < self.old.trials → self.old.spots < length spots.old }
-        ensures lane { lane spots.new self.new.spots ≡ log_if (marks_of self.old.marks self.old.trials) (lane spots.old self.old.spots) (was ∷ []) }
-        ensures kept { (self.new.trials ≡ self.old.trials) × (self.new.marks ≡ self.old.marks) × (self.new.small ≡ self.old.small) × (self.new.large ≡ self.old.large) }
-        ensures used { self.new.spots ≤ self.old.spots + 1 }
+        requires { 0 < open_trials self.old → self.old.used.spots < length spots.old }
+        ensures lane { lane spots.new self.new.used.spots ≡ log_if (marks_of self.old) (lane spots.old self.old.used.spots) (was ∷ []) }
+        ensures kept { OnlySpots self.new self.old }
+        ensures used { self.new.used.spots ≤ self.old.used.spots + 1 }
     {
-        if self.trials == 0 {
+        if self.marks.is_empty() {
             return;
         }
-        log_record(spots, &mut self.spots, was);
+        log_record(spots, &mut self.used.spots, was);
     }
 
     // Changes a cell, and logs what it was.
     fn set_cell(&mut self, cells: &mut [Cell], spots: &mut [Spot], at: usize, change: Change)
         requires inside { at < length cells.old }
         requires few { length cells.old ≤ 1048576 }
-        requires room { 0 < self.old.trials → self.old.spots < length spots.old }
-        ensures cells { logged_cells cells.new spots.new self.new.spots ≡ change_one (marks_of self.old.marks self.old.trials) change at (logged_cells cells.old spots.old self.old.spots) }
-        ensures kept { (self.new.trials ≡ self.old.trials) × (self.new.marks ≡ self.old.marks) × (self.new.small ≡ self.old.small) × (self.new.large ≡ self.old.large) }
-        ensures used { self.new.spots ≤ self.old.spots + 1 }
+        requires room { 0 < open_trials self.old → self.old.used.spots < length spots.old }
+        ensures cells { logged_cells cells.new spots.new self.new.used.spots ≡ change_one (marks_of self.old) change at (logged_cells cells.old spots.old self.old.used.spots) }
+        ensures kept { OnlySpots self.new self.old }
+        ensures used { self.new.used.spots ≤ self.old.used.spots + 1 }
     {
         let was = cells[at];
         self.log_spot(spots, Spot::Cell { at: at as u32, was });
@@ -71,10 +72,10 @@ impl Journal {
     )
         requires inside { first + width ≤ length cells.old }
         requires few { length cells.old ≤ 1048576 }
-        requires room { 0 < self.old.trials → self.old.spots + width ≤ length spots.old }
-        ensures cells { logged_cells cells.new spots.new self.new.spots ≡ change_each (marks_of self.old.marks self.old.trials) change (from first width) (logged_cells cells.old spots.old self.old.spots) }
-        ensures kept { (self.new.trials ≡ self.old.trials) × (self.new.marks ≡ self.old.marks) × (self.new.small ≡ self.old.small) × (self.new.large ≡ self.old.large) }
-        ensures used { self.new.spots ≤ self.old.spots + width }
+        requires room { 0 < open_trials self.old → self.old.used.spots + width ≤ length spots.old }
+        ensures cells { logged_cells cells.new spots.new self.new.used.spots ≡ change_each (marks_of self.old) change (from first width) (logged_cells cells.old spots.old self.old.used.spots) }
+        ensures kept { OnlySpots self.new self.old }
+        ensures used { self.new.used.spots ≤ self.old.used.spots + width }
     {
         for i in 0..width {
             self.set_cell(cells, spots, first + i, change);
@@ -92,9 +93,9 @@ impl Journal {
     )
         requires inside { (k : ℕ) → k < block.height → block.from + k * columns + block.width ≤ length cells.old }
         requires few { length cells.old ≤ 1048576 }
-        requires room { 0 < self.old.trials → self.old.spots + block.height * block.width ≤ length spots.old }
-        ensures cells { logged_cells cells.new spots.new self.new.spots ≡ change_each (marks_of self.old.marks self.old.trials) change (block_cells columns block.width block.from block.height) (logged_cells cells.old spots.old self.old.spots) }
-        ensures kept { (self.new.trials ≡ self.old.trials) × (self.new.marks ≡ self.old.marks) × (self.new.small ≡ self.old.small) × (self.new.large ≡ self.old.large) }
+        requires room { 0 < open_trials self.old → self.old.used.spots + block.height * block.width ≤ length spots.old }
+        ensures cells { logged_cells cells.new spots.new self.new.used.spots ≡ change_each (marks_of self.old) change (block_cells columns block.width block.from block.height) (logged_cells cells.old spots.old self.old.used.spots) }
+        ensures kept { OnlySpots self.new self.old }
     {
         for k in 0..block.height {
             self.set_row(cells, spots, block.from + k * columns, block.width, change);

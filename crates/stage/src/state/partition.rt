@@ -12,14 +12,15 @@ ghost use Rattle.model.specs.Coders as coder;
 ghost use Rattle.model.specs.Decisions.{stage, partition_allowed, partition_path, partition_table, partition_tree};
 ghost use Rattle.model.specs.Runs.{Lent};
 ghost use Rattle.stage.specs.Lanes.{SameMemory};
+ghost use Rattle.stage.specs.Questions.{need};
 ghost use Rattle.stage.specs.Partitions.{context_at, entries_at, small_at, large_at};
-ghost use Rattle.stage.specs.View.{lanes, world};
+ghost use Rattle.stage.specs.View.{lanes, open_trials, world};
 
 use crate::state::symbols::put_entry;
 use crate::state::{Contexts, Stage};
 use av1::{BlockSize, PartitionType, Refusal, TileBlockOffset};
 use cdf::Edge;
-use journal::Log;
+use journal::{Counts, Log};
 use record::Sink;
 
 impl Contexts {
@@ -71,16 +72,18 @@ fn symbol_at_edge(p: PartitionType) -> usize
 }
 
 // How many entries a partition has, and undo records in the lanes of small and large windows.
-fn records(rows: bool, cols: bool, n: usize) -> (usize, usize, usize)
-    ensures { (result.0 ≡ entries_at rows cols) × (result.1 ≡ small_at rows cols n) × (result.2 ≡ large_at rows cols n) }
+fn records(rows: bool, cols: bool, n: usize) -> (usize, Counts)
+    ensures entries { result.0 ≡ entries_at rows cols }
+    ensures need { result.1 ≡ need (small_at rows cols n) (large_at rows cols n) 0 }
 {
-    if rows && cols {
-        if n <= 4 { (1, 1, 0) } else { (1, 0, 1) }
-    } else if rows || cols {
-        (1, 0, 0)
-    } else {
-        (0, 0, 0)
-    }
+    let window = usize::from(rows && cols);
+    let (small, large) = if n <= 4 { (window, 0) } else { (0, window) };
+    let need = Counts {
+        small,
+        large,
+        spots: 0,
+    };
+    (usize::from(rows || cols), need)
 }
 
 impl Stage {
@@ -113,8 +116,8 @@ impl Stage {
         requires table { in_layout (table first n) ≡ true }
         requires allowed { partition_allowed rows cols (table first n) (number p) ≡ true }
         requires room { entries_at rows cols ≤ S.Sink.rooms sink.old (S.Sink.list sink.old) }
-        requires small { 0 < self.old.journal.trials → self.old.journal.small + small_at rows cols n ≤ length log.old.small.now }
-        requires large { 0 < self.old.journal.trials → self.old.journal.large + large_at rows cols n ≤ length log.old.large.now }
+        requires small { 0 < open_trials self.old.journal → self.old.journal.used.small + small_at rows cols n ≤ length log.old.small.now }
+        requires large { 0 < open_trials self.old.journal → self.old.journal.used.large + large_at rows cols n ≤ length log.old.large.now }
         ensures step { (memory : List Cell) → world self.new memory (lanes log.new) (S.Sink.list sink.new) ≡ symbol_steps (partition_tree rows cols (table first n)) (partition_path rows cols (number p)) (world self.old memory (lanes log.old) (S.Sink.list sink.old)) }
         ensures rooms { S.Sink.rooms sink.new ≡ S.Sink.rooms sink.old }
         ensures memory { SameMemory log.new log.old }
@@ -152,9 +155,8 @@ impl Stage {
         if !is_allowed(rows, cols, n, p) {
             return Err(Refusal::Partition);
         }
-        let (entries, small, large) = records(rows, cols, n);
-        self.journal
-            .ask_record(log, sink.room(), entries, small, large, 0)?;
+        let (entries, need) = records(rows, cols, n);
+        self.journal.ask_record(log, sink.room(), entries, need)?;
         self.code_partition(sink, log, rows, cols, first, n, p);
         Ok(entries)
     }

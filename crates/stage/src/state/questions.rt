@@ -1,10 +1,10 @@
 ghost use Rattle.std.specs.Prelude.{◌≡◌, ◌+◌, ◌<◌, ◌≤◌, OnOk, nat_le};
-ghost use Rattle.stage.specs.Questions.{need, LanesFit, record_asked};
+ghost use Rattle.stage.specs.Questions.{LanesFit, record_asked};
 ghost use Rattle.stage.specs.View.{lanes};
 
 use crate::state::Journal;
 use av1::Refusal;
-use journal::Log;
+use journal::{Counts, Log};
 
 // Whether a lane of `len` places takes `more` records behind the `used` ones.
 fn fits(used: usize, more: usize, len: usize) -> bool
@@ -21,21 +21,19 @@ impl Journal {
         log: &Log<'_>,
         room: usize,
         entries: usize,
-        small: usize,
-        large: usize,
-        spots: usize,
+        need: Counts,
     ) -> Result<(), Refusal>
-        ensures answer { result ≡ record_asked self.now (lanes log.now) room entries (need small large spots) }
+        ensures answer { result ≡ record_asked self.now (lanes log.now) room entries need }
         ensures room { OnOk result (entries ≤ room) }
-        ensures lanes { OnOk result (LanesFit self.now (lanes log.now) (need small large spots)) }
+        ensures lanes { OnOk result (LanesFit self.now (lanes log.now) need) }
     {
         if room < entries {
             return Err(Refusal::Room);
         }
-        if self.trials == 0
-            || (fits(self.small, small, log.small.len())
-                && fits(self.large, large, log.large.len())
-                && fits(self.spots, spots, log.spots.len()))
+        if self.marks.is_empty()
+            || (fits(self.used.small, need.small, log.small.len())
+                && fits(self.used.large, need.large, log.large.len())
+                && fits(self.used.spots, need.spots, log.spots.len()))
         {
             Ok(())
         } else {

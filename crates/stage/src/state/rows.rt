@@ -15,7 +15,7 @@ impl Stage {
         ensures step { (memory : List Cell) (rooms : List Entry → ℕ) (l : Lent stage) (entries : List Entry) → (result, world self.new memory l entries) ≡ row_step (length memory) rooms (world self.old memory l entries) }
         ensures still { is_ok result ≡ false → self.new ≡ self.old }
     {
-        if self.journal.trials > 0 {
+        if !self.journal.marks.is_empty() {
             return Err(Refusal::TrialOpen);
         }
         self.contexts.left = [0; 8];

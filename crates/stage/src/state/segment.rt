@@ -6,12 +6,12 @@ ghost use Rattle.model.specs.Calls.{segment_step, symbol_steps};
 ghost use Rattle.model.specs.Decisions.{segment_tree, segment_path, segment_decided};
 ghost use Rattle.stage.specs.Cells.{SegmentSet};
 ghost use Rattle.stage.specs.Lanes.{SameMemory};
-ghost use Rattle.stage.specs.View.{world, lanes, units_of};
+ghost use Rattle.stage.specs.View.{lanes, open_trials, units_of, world};
 
 use crate::state::Stage;
 use crate::state::cells::Change;
 use av1::{BlockSize, Cell, Refusal, TileBlockOffset, neg_interleave};
-use journal::Log;
+use journal::{Counts, Log};
 use record::Sink;
 
 impl Stage {
@@ -39,14 +39,14 @@ impl Stage {
         requires prediction { prediction ≤ self.old.last }
         requires segment { IfSome segment (λ id. id ≤ self.old.last) }
         requires room { OnSome segment (0 < S.Sink.rooms sink.old (S.Sink.list sink.old)) }
-        requires large { OnSome segment (0 < self.old.journal.trials → self.old.journal.large < length log.old.large.now) }
+        requires large { OnSome segment (0 < open_trials self.old.journal → self.old.journal.used.large < length log.old.large.now) }
         ensures segment { result ≡ segment_decided (is_none segment) prediction (unwrap_or segment 0) }
         ensures step { (memory : List Cell) → world self.new memory (lanes log.new) (S.Sink.list sink.new) ≡ symbol_steps (segment_tree (is_none segment) number self.old.last prediction) (segment_path (is_none segment) self.old.last prediction result) (world self.old memory (lanes log.old) (S.Sink.list sink.old)) }
         ensures rooms { S.Sink.rooms sink.new ≡ S.Sink.rooms sink.old }
         ensures memory { SameMemory log.new log.old }
         ensures tile { self.new.tile ≡ self.old.tile }
-        ensures trials { self.new.journal.trials ≡ self.old.journal.trials }
-        ensures spots { self.new.journal.spots ≡ self.old.journal.spots }
+        ensures trials { open_trials self.new.journal ≡ open_trials self.old.journal }
+        ensures spots { self.new.journal.used.spots ≡ self.old.journal.used.spots }
     {
         let Some(segment) = segment else {
             return prediction;
@@ -85,9 +85,11 @@ impl Stage {
             log,
             sink.room(),
             entries,
-            0,
-            entries,
-            block.height * block.width,
+            Counts {
+                small: 0,
+                large: entries,
+                spots: block.height * block.width,
+            },
         )?;
         let cells = &mut map[0..tile.units()];
         let (prediction, number) = tile.get_segment_pred(cells, bo, self.last);

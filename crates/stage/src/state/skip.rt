@@ -8,7 +8,7 @@ ghost use Rattle.stage.specs.View.{world, lanes, units_of};
 use crate::state::Stage;
 use crate::state::cells::Change;
 use av1::{BlockSize, Cell, Refusal, TileBlockOffset};
-use journal::Log;
+use journal::{Counts, Log};
 use record::Sink;
 
 impl Stage {
@@ -32,8 +32,16 @@ impl Stage {
     {
         let tile = self.tile;
         let block = tile.ask_block(map.len(), 64, bo, bsize)?;
-        self.journal
-            .ask_record(log, sink.room(), 1, 1, 0, block.height * block.width)?;
+        self.journal.ask_record(
+            log,
+            sink.room(),
+            1,
+            Counts {
+                small: 1,
+                large: 0,
+                spots: block.height * block.width,
+            },
+        )?;
         let cells = &mut map[0..tile.units()];
         let ctx = tile.skip_context(cells, bo);
         self.symbol(sink, log, 2 * ctx, 2, skip as usize);

@@ -2,12 +2,14 @@ ghost use Rattle.std.specs.Prelude.{◌≡◌, ◌*◌, ◌≤◌, false, [], le
 ghost use Rattle.model.specs.Decisions.{stage, start_asked};
 ghost use Rattle.model.specs.Runs.{fresh, Lent};
 ghost use Rattle.model.specs.Worked.{start};
+ghost use Rattle.stage.specs.Questions.{need};
 ghost use Rattle.stage.specs.View.{world, refused_by, cleared};
 
 use crate::state::{Contexts, Journal, Stage};
+use arrayvec::ArrayVec;
 use av1::{Cell, Refusal, Tile};
 use cdf::Tables;
-use journal::Mark;
+use journal::Counts;
 
 fn clear_cells(map: &mut [Cell], n: usize)
     requires { n ≤ length map.old }
@@ -33,20 +35,12 @@ impl Contexts {
 impl Journal {
     // No trial is open, and no record in use.
     fn start() -> Journal
-        ensures { (result.trials ≡ 0) × (result.small ≡ 0) × (result.large ≡ 0) × (result.spots ≡ 0) }
+        ensures marks { result.marks.items ≡ [] }
+        ensures used { result.used ≡ need 0 0 0 }
     {
-        let marks = [Mark {
-            small: 0,
-            large: 0,
-            spots: 0,
-            entries: 0,
-        }; 16];
         Journal {
-            trials: 0,
-            marks,
-            small: 0,
-            large: 0,
-            spots: 0,
+            marks: ArrayVec::new(),
+            used: Counts::default(),
         }
     }
 }

@@ -8,7 +8,7 @@ ghost use Rattle.model.specs.Coders.{whole};
 ghost use Rattle.model.specs.Decisions.{window_at};
 ghost use Rattle.model.specs.Runs.{logged};
 ghost use Rattle.stage.specs.Lanes.{SameMemory};
-ghost use Rattle.stage.specs.View.{lane, lanes, marks_of, world};
+ghost use Rattle.stage.specs.View.{lane, lanes, marks_of, open_trials, world};
 
 use crate::state::{Journal, Stage};
 use cdf::{Entry, Tables};
@@ -55,23 +55,23 @@ impl Journal {
     // Logs the window of the table of `n` symbols at word `first`, while a trial is open.
     fn log_table(&mut self, log: &mut Log<'_>, tables: &Tables, first: usize, n: usize)
         requires table { in_layout (table first n) ≡ true }
-        requires small { 0 < self.old.trials → n ≤ 4 → self.old.small < length log.old.small.now }
-        requires large { 0 < self.old.trials → 4 < n → self.old.large < length log.old.large.now }
-        ensures small { lane log.new.small.now self.new.small ≡ log_if (marks_of self.old.marks self.old.trials) (lane log.old.small.now self.old.small) (small_log (whole (table first n)) tables.now.words) }
-        ensures large { lane log.new.large.now self.new.large ≡ log_if (marks_of self.old.marks self.old.trials) (lane log.old.large.now self.old.large) (large_log (whole (table first n)) tables.now.words) }
-        ensures spots { (log.new.spots.now ≡ log.old.spots.now) × (self.new.spots ≡ self.old.spots) }
-        ensures few { n ≤ 4 → (self.new.small ≤ self.old.small + 1) × (self.new.large ≡ self.old.large) }
-        ensures many { 4 < n → (self.new.large ≤ self.old.large + 1) × (self.new.small ≡ self.old.small) }
-        ensures trials { (self.new.trials ≡ self.old.trials) × (self.new.marks ≡ self.old.marks) }
+        requires small { 0 < open_trials self.old → n ≤ 4 → self.old.used.small < length log.old.small.now }
+        requires large { 0 < open_trials self.old → 4 < n → self.old.used.large < length log.old.large.now }
+        ensures small { lane log.new.small.now self.new.used.small ≡ log_if (marks_of self.old) (lane log.old.small.now self.old.used.small) (small_log (whole (table first n)) tables.now.words) }
+        ensures large { lane log.new.large.now self.new.used.large ≡ log_if (marks_of self.old) (lane log.old.large.now self.old.used.large) (large_log (whole (table first n)) tables.now.words) }
+        ensures spots { (log.new.spots.now ≡ log.old.spots.now) × (self.new.used.spots ≡ self.old.used.spots) }
+        ensures few { n ≤ 4 → (self.new.used.small ≤ self.old.used.small + 1) × (self.new.used.large ≡ self.old.used.large) }
+        ensures many { 4 < n → (self.new.used.large ≤ self.old.used.large + 1) × (self.new.used.small ≡ self.old.used.small) }
+        ensures marks { self.new.marks ≡ self.old.marks }
         ensures memory { SameMemory log.new log.old }
     {
-        if self.trials == 0 {
+        if self.marks.is_empty() {
             return;
         }
         if n <= 4 {
-            log_record(log.small, &mut self.small, window_of(tables.words(), first));
+            log_record(log.small, &mut self.used.small, window_of(tables.words(), first));
         } else {
-            log_record(log.large, &mut self.large, window_of(tables.words(), first));
+            log_record(log.large, &mut self.used.large, window_of(tables.words(), first));
         }
     }
 }
@@ -89,17 +89,17 @@ impl Stage {
         requires table { in_layout (table first n) ≡ true }
         requires symbol { s < n }
         requires room { 0 < S.Sink.rooms sink.old (S.Sink.list sink.old) }
-        requires small { 0 < self.old.journal.trials → n ≤ 4 → self.old.journal.small < length log.old.small.now }
-        requires large { 0 < self.old.journal.trials → 4 < n → self.old.journal.large < length log.old.large.now }
+        requires small { 0 < open_trials self.old.journal → n ≤ 4 → self.old.journal.used.small < length log.old.small.now }
+        requires large { 0 < open_trials self.old.journal → 4 < n → self.old.journal.used.large < length log.old.large.now }
         ensures step { (memory : List Cell) → world self.new memory (lanes log.new) (S.Sink.list sink.new) ≡ symbol_step (whole (table first n)) s (world self.old memory (lanes log.old) (S.Sink.list sink.old)) }
         ensures rooms { S.Sink.rooms sink.new ≡ S.Sink.rooms sink.old }
         ensures left { S.Sink.rooms sink.old (S.Sink.list sink.old) ≤ S.Sink.rooms sink.new (S.Sink.list sink.new) + 1 }
-        ensures few { n ≤ 4 → (self.new.journal.small ≤ self.old.journal.small + 1) × (self.new.journal.large ≡ self.old.journal.large) }
-        ensures many { 4 < n → (self.new.journal.large ≤ self.old.journal.large + 1) × (self.new.journal.small ≡ self.old.journal.small) }
+        ensures few { n ≤ 4 → (self.new.journal.used.small ≤ self.old.journal.used.small + 1) × (self.new.journal.used.large ≡ self.old.journal.used.large) }
+        ensures many { 4 < n → (self.new.journal.used.large ≤ self.old.journal.used.large + 1) × (self.new.journal.used.small ≡ self.old.journal.used.small) }
         ensures memory { SameMemory log.new log.old }
         ensures tile { self.new.tile ≡ self.old.tile }
-        ensures trials { self.new.journal.trials ≡ self.old.journal.trials }
-        ensures spots { self.new.journal.spots ≡ self.old.journal.spots }
+        ensures trials { open_trials self.new.journal ≡ open_trials self.old.journal }
+        ensures spots { self.new.journal.used.spots ≡ self.old.journal.used.spots }
     {
         self.journal.log_table(log, &self.tables, first, n);
         let Some(entry) = self.tables.symbol_with_update(first, n, s) else {

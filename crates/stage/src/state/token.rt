@@ -4,7 +4,7 @@ ghost use Rattle.cdf.specs.declared.entry.Entry.{Entry};
 ghost use Rattle.model.specs.Calls.{open_step, back_step, keep_step};
 ghost use Rattle.model.specs.Decisions.{stage};
 ghost use Rattle.model.specs.Runs.{Lent};
-ghost use Rattle.stage.specs.View.{depth_of, kept_of, lanes, units_of, world};
+ghost use Rattle.stage.specs.View.{depth_of, kept_of, lanes, open_trials, units_of, world};
 
 use crate::state::{Stage, Trial};
 use av1::{Cell, Refusal};
@@ -23,9 +23,9 @@ impl Trial {
 impl Stage {
     /// How many trials are open.
     pub fn trials(&self) -> usize
-        ensures { result ≡ self.now.journal.trials }
+        ensures { result ≡ open_trials self.now.journal }
     {
-        self.journal.trials
+        self.journal.marks.len()
     }
 
     /// Opens a trial.

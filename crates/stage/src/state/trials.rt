@@ -5,20 +5,20 @@ ghost use Rattle.model.specs.Calls.{open_step, keep_step};
 ghost use Rattle.model.specs.Decisions.{stage};
 ghost use Rattle.model.specs.Runs.{Lent};
 ghost use Rattle.stage.specs.Questions.{innermost_asked};
-ghost use Rattle.stage.specs.View.{world};
+ghost use Rattle.stage.specs.View.{open_trials, world};
 
 use crate::state::{Journal, Stage};
 use av1::Refusal;
-use journal::Mark;
+use journal::{Counts, Mark};
 use record::Sink;
 
 impl Journal {
     // Whether the trial of this depth is the innermost one.
     pub(super) fn ask_innermost(&self, depth: usize) -> Result<(), Refusal>
-        ensures answer { result ≡ innermost_asked self.now.trials depth }
-        ensures open { OnOk result (0 < self.now.trials) }
+        ensures answer { result ≡ innermost_asked (open_trials self.now) depth }
+        ensures open { OnOk result (0 < open_trials self.now) }
     {
-        if self.trials == 0 || depth != self.trials {
+        if self.marks.is_empty() || depth != self.marks.len() {
             return Err(Refusal::NotInnermost);
         }
         Ok(())
@@ -31,18 +31,14 @@ impl Stage {
         ensures step { (memory : List Cell) (rooms : List Entry → ℕ) (l : Lent stage) → (result, world self.new memory l (S.Sink.list sink.now)) ≡ open_step (length memory) rooms (world self.old memory l (S.Sink.list sink.now)) }
         ensures still { is_ok result ≡ false → self.new ≡ self.old }
     {
-        let trials = self.journal.trials;
-        if trials >= 16 {
+        if self.journal.marks.is_full() {
             return Err(Refusal::TooManyTrials);
         }
-        self.journal.marks[trials] = Mark {
-            small: self.journal.small,
-            large: self.journal.large,
-            spots: self.journal.spots,
+        self.journal.marks.push(Mark {
+            used: self.journal.used,
             entries: sink.count(),
-        };
-        self.journal.trials = trials + 1;
-        Ok(trials + 1)
+        });
+        Ok(self.journal.marks.len())
     }
 
     /// Ends the trial of a depth, and keeps what was done in it.
@@ -51,11 +47,9 @@ impl Stage {
         ensures still { is_ok result ≡ false → self.new ≡ self.old }
     {
         self.journal.ask_innermost(depth)?;
-        self.journal.trials -= 1;
-        if self.journal.trials == 0 {
-            self.journal.small = 0;
-            self.journal.large = 0;
-            self.journal.spots = 0;
+        let _ = self.journal.marks.pop();
+        if self.journal.marks.is_empty() {
+            self.journal.used = Counts::default();
         }
         Ok(())
     }

@@ -8,7 +8,7 @@ ghost use Rattle.stage.specs.View.{lanes, world};
 use crate::state::Stage;
 use crate::state::bytes::Side;
 use av1::{BlockSize, Refusal, TileBlockOffset};
-use journal::Log;
+use journal::{Counts, Log};
 
 impl Stage {
     /// Leaves the bytes of `subsize`, into which the square `bsize` was split, in the contexts above and left of the
@@ -31,7 +31,16 @@ impl Stage {
         tile.ask_square(64, bo, bsize)?;
         let width = bsize.width_mi() / 2;
         let height = bsize.height_mi() / 2;
-        self.journal.ask_record(log, 0, 0, 0, 0, width + height)?;
+        self.journal.ask_record(
+            log,
+            0,
+            0,
+            Counts {
+                small: 0,
+                large: 0,
+                spots: width + height,
+            },
+        )?;
         let (above, left) = subsize.context_bytes();
         self.journal.set_bytes(
             &mut self.contexts.above,

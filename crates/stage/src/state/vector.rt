@@ -14,7 +14,7 @@ ghost use Rattle.stage.specs.Vectors.{Component, integer_count, fraction_count, 
 use crate::state::Stage;
 use av1::mv::{get_mv_class, split_component};
 use av1::{MvSubpelPrecision, Refusal};
-use journal::Log;
+use journal::{Counts, Log};
 use record::Sink;
 
 // How many symbols code the fraction, and how many the high bit.
@@ -252,8 +252,16 @@ impl Stage {
         let rows = (high != 0) as usize;
         let cols = (wide != 0) as usize;
         let large = rows + cols;
-        self.journal
-            .ask_record(log, sink.room(), small + large, small, large, 0)?;
+        self.journal.ask_record(
+            log,
+            sink.room(),
+            small + large,
+            Counts {
+                small: small,
+                large: large,
+                spots: 0,
+            },
+        )?;
         self.symbol(sink, log, 302, 4, 2 * rows + cols);
         self.encode_mv_component(sink, log, 318, row, precision);
         self.encode_mv_component(sink, log, 374, col, precision);

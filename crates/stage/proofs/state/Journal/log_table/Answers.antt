@@ -22,18 +22,18 @@ returns-then-n-le4 c =
     let first : ℕ = c.args.first in
     let n : ℕ = c.args.n in
     let few : n ≤ 4 = search rules in
-    let some : 0 < j.trials = search rules in
-    let was = lane c.args.log.now.small.now j.small in
+    let some : 0 < open_trials j = search rules in
+    let was = lane c.args.log.now.small.now j.used.small in
     record {
       small =
           c.log_record.ensures.lane ∙ ap (λ r. logged was (r ∷ [])) c.window_of.ensures
-          ∙ ap (λ w. logged was (window_at 4 w first ∷ [])) c.words.ensures ∙ log_open j.marks j.trials was (window_at 4 words first ∷ []) some
-          ∙ sym (ap (log_if (marks_of j.marks j.trials) was) (small_window words first n few));
-      large = log_none j.marks j.trials (lane c.args.log.now.large.now j.large) (large_log (whole (table first n)) words) (no_large_window words first n few);
+          ∙ ap (λ w. logged was (window_at 4 w first ∷ [])) c.words.ensures ∙ log_open j was (window_at 4 words first ∷ []) some
+          ∙ sym (ap (log_if (marks_of j) was) (small_window words first n few));
+      large = log_none j (lane c.args.log.now.large.now j.used.large) (large_log (whole (table first n)) words) (no_large_window words first n few);
       spots = (refl, refl);
       few = λ h. (omega (arith, ap (λ (l : Lane (Window 4)). l.used) c.log_record.ensures.lane), refl);
       many = λ h. absurd (omega (arith, few));
-      trials = (refl, refl);
+      marks = refl;
       memory = search rules;
     }
 
@@ -44,17 +44,17 @@ returns-else-n-le4 c =
     let first : ℕ = c.args.first in
     let n : ℕ = c.args.n in
     let many : 4 < n = search rules in
-    let some : 0 < j.trials = search rules in
-    let was = lane c.args.log.now.large.now j.large in
+    let some : 0 < open_trials j = search rules in
+    let was = lane c.args.log.now.large.now j.used.large in
     record {
-      small = log_none j.marks j.trials (lane c.args.log.now.small.now j.small) (small_log (whole (table first n)) words) (no_small_window words first n many);
+      small = log_none j (lane c.args.log.now.small.now j.used.small) (small_log (whole (table first n)) words) (no_small_window words first n many);
       large =
           c.log_record-else-n-le4.ensures.lane ∙ ap (λ r. logged was (r ∷ [])) c.window_of-else-n-le4.ensures
-          ∙ ap (λ w. logged was (window_at 16 w first ∷ [])) c.words-else-n-le4.ensures ∙ log_open j.marks j.trials was (window_at 16 words first ∷ []) some
-          ∙ sym (ap (log_if (marks_of j.marks j.trials) was) (large_window words first n many));
+          ∙ ap (λ w. logged was (window_at 16 w first ∷ [])) c.words-else-n-le4.ensures ∙ log_open j was (window_at 16 words first ∷ []) some
+          ∙ sym (ap (log_if (marks_of j) was) (large_window words first n many));
       spots = (refl, refl);
       few = λ h. absurd (omega (arith, many));
       many = λ h. (omega (arith, ap (λ (l : Lane (Window 16)). l.used) c.log_record-else-n-le4.ensures.lane), refl);
-      trials = (refl, refl);
+      marks = refl;
       memory = search rules;
     }

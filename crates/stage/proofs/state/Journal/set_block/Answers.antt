@@ -1,6 +1,7 @@
 use Rattle.std.proofs.Common.{◌≡◌, ℕ, ◌+◌, ◌*◌, ◌<◌, ◌≤◌, ◌∙◌, ap₂, mul-le-mul_right, add-mul, one-mul, arith, rules}
 use Rattle.stage.specs.View.{marks_of}
 use Rattle.stage.proofs.Cells.{block_turn}
+use Rattle.stage.proofs.Symbols.{only_spots_then, same_marks, same_trials}
 use Rattle.stage.proofs.state.Journal.set_block.Goals as goal
 
 pub set_row-requires : goal.set_row-requires
@@ -14,7 +15,7 @@ set_row-requires c =
     record {
       inside = omega (arith, c.requires.inside k here);
       few = search rules;
-      room = λ h. omega (arith, c.requires.room (omega (arith, c.loop-k.invariant.0.0)), c.loop-k.invariant.1, rows, parts);
+      room = λ h. omega (arith, c.requires.room (omega (arith, same_trials _ _ c.loop-k.invariant.0)), c.loop-k.invariant.1, rows, parts);
     }
 
 pub loop-k-preserved : goal.loop-k-preserved
@@ -25,7 +26,7 @@ loop-k-preserved c =
     let wide : ℕ = c.args.block.width in
     let here : k < c.args.block.height = search rules in
     let parts : (k + 1) * wide ≡ k * wide + wide = simp (add-mul, one-mul) in (
-      (kept.0 ∙ inv.0.0, kept.1 ∙ inv.0.1, kept.2 ∙ inv.0.2, kept.3 ∙ inv.0.3),
+      only_spots_then _ _ _ kept inv.0,
       omega (arith, c.set_row.ensures.used, inv.1, parts),
-      block_turn _ _ c.args.change c.args.columns wide c.args.block.from k c.args.block.height _ _ _ here (ap₂ marks_of inv.0.1 inv.0.0) c.set_row.ensures.cells inv.2,
+      block_turn _ _ c.args.change c.args.columns wide c.args.block.from k c.args.block.height _ _ _ here (same_marks _ _ inv.0) c.set_row.ensures.cells inv.2,
     )

@@ -2,6 +2,7 @@ use Rattle.std.proofs.Common.{◌<◌, ap, ◌∙◌, ap₂, arith, rules}
 use Rattle.stage.specs.Cells.{change_one}
 use Rattle.stage.specs.View.{marks_of}
 use Rattle.stage.proofs.Places.{next_turn}
+use Rattle.stage.proofs.Symbols.{only_spots_then, same_marks}
 use Rattle.stage.proofs.state.Journal.set_row.Goals as goal
 
 pub loop-i-preserved : goal.loop-i-preserved
@@ -9,7 +10,7 @@ loop-i-preserved c =
     let inv = c.loop-i.invariant in
     let kept = c.set_cell.ensures.kept in
     let here : c.loop-i.i < c.args.width = search rules in (
-      (kept.0 ∙ inv.0.0, kept.1 ∙ inv.0.1, kept.2 ∙ inv.0.2, kept.3 ∙ inv.0.3),
+      only_spots_then _ _ _ kept inv.0,
       omega (arith, c.set_cell.ensures.used, inv.1),
-      next_turn _ _ c.args.first c.loop-i.i c.args.width _ _ _ here (ap (λ ms. change_one ms c.args.change) (ap₂ marks_of inv.0.1 inv.0.0)) c.set_cell.ensures.cells inv.2,
+      next_turn _ _ c.args.first c.loop-i.i c.args.width _ _ _ here (ap (λ ms. change_one ms c.args.change) (same_marks _ _ inv.0)) c.set_cell.ensures.cells inv.2,
     )

@@ -14,27 +14,28 @@ returns-in_err-ask_innermost c =
       still = λ h. refl;
     })
 
-pub returns-then-self-eq0 : goal.returns-then-self-eq0
-returns-then-self-eq0 c =
+pub returns-then-self : goal.returns-then-self
+returns-then-self c =
     let s = c.args.self.now in
-    let last : s.journal.trials - 1 ≡ 0 = search rules in
-    let out : eqb (s.journal.trials - 1) 0 ≡ true = eq-eqb (s.journal.trials - 1) 0 last in
-    let some : 0 < s.journal.trials = search rules in
+    let kept = c.pop.new.self in
+    let last : length kept.items ≡ 0 = search rules in
+    let out : eqb (length kept.items) 0 ≡ true = eq-eqb (length kept.items) 0 last in
+    let none = c.default.ensures in
     record {
       step = λ memory rooms l entries. keep_accepted (length memory) rooms (state_of s memory) s.journal l entries c.args.depth tt
-          (record { trials = s.journal.trials - 1; marks = s.journal.marks; small = 0; large = 0; spots = 0 }) some c.in_ok-ask_innermost.ensures.answer refl refl
-          (sym (ap (λ b. cond b 0 s.journal.small) out)) (sym (ap (λ b. cond b 0 s.journal.large) out)) (sym (ap (λ b. cond b 0 s.journal.spots) out));
+          (record { marks = kept; used = c.default.result }) c.in_ok-ask_innermost.ensures.open c.in_ok-ask_innermost.ensures.answer c.pop.ensures.rest
+          (search rules) (search rules) (search rules);
       still = λ h. absurd (both_ways true h refl);
     }
 
-pub returns-else-self-eq0 : goal.returns-else-self-eq0
-returns-else-self-eq0 c =
+pub returns-else-self : goal.returns-else-self
+returns-else-self c =
     let s = c.args.self.now in
-    let more : eqb (s.journal.trials - 1) 0 ≡ false = search rules in
-    let some : 0 < s.journal.trials = search rules in
+    let kept = c.pop.new.self in
+    let more : eqb (length kept.items) 0 ≡ false = search rules in
     record {
       step = λ memory rooms l entries. keep_accepted (length memory) rooms (state_of s memory) s.journal l entries c.args.depth tt
-          (record { trials = s.journal.trials - 1; marks = s.journal.marks; small = s.journal.small; large = s.journal.large; spots = s.journal.spots }) some c.in_ok-ask_innermost.ensures.answer refl refl
-          (sym (ap (λ b. cond b 0 s.journal.small) more)) (sym (ap (λ b. cond b 0 s.journal.large) more)) (sym (ap (λ b. cond b 0 s.journal.spots) more));
+          (record { marks = kept; used = s.journal.used }) c.in_ok-ask_innermost.ensures.open c.in_ok-ask_innermost.ensures.answer c.pop.ensures.rest
+          (sym (ap (λ b. cond b 0 s.journal.used.small) more)) (sym (ap (λ b. cond b 0 s.journal.used.large) more)) (sym (ap (λ b. cond b 0 s.journal.used.spots) more));
       still = λ h. absurd (both_ways true h refl);
     }

@@ -15,12 +15,11 @@ returns c =
     let m = c.in_ok-tile.ensures.made in
     let cells : c.clear_cells.new.map ≡ cleared (tile.cols * tile.rows) c.args.map.now =
     c.clear_cells.ensures ∙ ap (λ n. cleared n c.args.map.now) c.units.ensures.value in
-    let j = c.start-3.ensures in
     record {
       asked = c.in_ok-tile.ensures.asked;
       fresh = λ l.
           started c.args.columns c.args.rows c.args.last tile.cols tile.rows c.start.result.words c.start-2.result.above c.start-2.result.left
-          c.start-3.result.marks c.start-3.result.trials c.start-3.result.small c.start-3.result.large c.start-3.result.spots
-          c.args.map.now c.clear_cells.new.map l m.0 m.1 c.start.ensures c.start-2.ensures.0 c.start-2.ensures.1 j.0 j.1 j.2 j.3 cells;
+          c.start-3.result.marks.items c.start-3.result.used
+          c.args.map.now c.clear_cells.new.map l m.0 m.1 c.start.ensures c.start-2.ensures.0 c.start-2.ensures.1 c.start-3.ensures.marks c.start-3.ensures.used cells;
       map = cells ∙ ap₂ (λ a b. cleared (a * b) c.args.map.now) m.0 m.1;
     }

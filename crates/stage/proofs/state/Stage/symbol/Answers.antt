@@ -1,4 +1,6 @@
-use Rattle.std.proofs.Common.{◌≡◌, ℕ, ◌+◌, ◌≤◌, true, List, [], ◌∷◌, ◌++◌, sym, refl, ap, ◌∙◌, subst}
+use Rattle.std.proofs.Common.{◌≡◌, ℕ, ◌+◌, ◌≤◌, true, List, [], ◌∷◌, ◌++◌, length, sym, refl, ap, ◌∙◌, subst}
+use Rattle.arrayvec.specs.ArrayVec.{ArrayVec}
+use Rattle.journal.specs.declared.Mark.{Mark}
 use Rattle.cdf.specs.declared.entry.Entry.{Entry}
 use Rattle.cdf.specs.Entries.{is_entry}
 use Rattle.cdf.specs.Words.{Words, table, updated}
@@ -26,7 +28,7 @@ returns g c =
     record {
       step = λ memory.
           symbol_world (state_of s memory) s.journal c.log_table.new.self (lanes c.args.log.now) (lanes c.log_table.new.log) es (k.list c.put_entry.new.sink)
-          c.symbol_with_update.new.self.words t v words list l.small l.large l.spots.0 l.spots.1 l.trials.0 l.trials.1;
+          c.symbol_with_update.new.self.words t v words list l.small l.large l.spots.0 l.spots.1 l.marks;
       rooms = put.rooms;
       left =
           subst (λ (f : List Entry → ℕ). room ≤ f (k.list c.put_entry.new.sink) + 1) (sym put.rooms)
@@ -35,6 +37,6 @@ returns g c =
       many = l.many;
       memory = l.memory;
       tile = refl;
-      trials = l.trials.0;
+      trials = ap (λ (v : ArrayVec Mark). length v.items) l.marks;
       spots = l.spots.1;
     }

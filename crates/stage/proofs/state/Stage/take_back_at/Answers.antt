@@ -7,7 +7,7 @@ use Rattle.journal.specs.declared.Mark.{Mark}
 use Rattle.journal.specs.declared.Spot.{Spot}
 use Rattle.journal.specs.Spots.{Area, area, put_area}
 use Rattle.journal.specs.Walks.{undone, visited}
-use Rattle.stage.specs.View.{lanes, state_of}
+use Rattle.stage.specs.View.{lanes, open_trials, state_of}
 use Rattle.stage.proofs.Backs.{back_refused, back_accepted, walked_state, above_long, left_long}
 use Rattle.stage.proofs.Cells.{part_taken, part_dropped}
 use Rattle.stage.proofs.state.Stage.take_back_at.Goals as goal
@@ -29,13 +29,13 @@ returns-in_err-mark g c =
 pub invariant_of-self : goal.invariant_of-self
 invariant_of-self g c =
     let s = c.args.self.now in
-    let rs : List Spot = visited c.in_ok-mark.mark.spots s.journal.spots (lanes c.args.log.now).spots in
+    let rs : List Spot = visited c.in_ok-mark.mark.used.spots s.journal.used.spots (lanes c.args.log.now).spots in
     let from : Area = area s.contexts.above s.contexts.left (mid_of 0 (c.units-units.result - 0) c.args.map.now) in
     let put : area c.undo_spots.new.above c.undo_spots.new.left c.undo_spots.new.cells ≡ undone put_area rs from = c.undo_spots.ensures.state in
     let over : length c.undo_spots.new.above ≡ 512 = ap (λ (a : Area). length a.above) put ∙ above_long rs from ∙ s.over in
     let beside : length c.undo_spots.new.left ≡ 8 = ap (λ (a : Area). length a.left) put ∙ left_long rs from ∙ s.beside in
-    let tried : 0 < s.journal.trials = c.in_ok-mark.ensures.passed.tried in
-    record { ends = s.ends; few = s.few; over = over; beside = beside; quiet = λ closed. absurd (omega (arith, closed, tried)) }
+    let tried : 0 < open_trials s.journal = c.in_ok-mark.ensures.passed.tried in
+    record { ends = s.ends; over = over; beside = beside; quiet = λ closed. absurd (omega (arith, closed, tried)) }
 
 pub returns : goal.returns
 returns g c =
@@ -60,7 +60,7 @@ returns g c =
       step =
           back_accepted (length map) (k.rooms c.args.sink.now) (state_of s map) s.journal log (k.list c.args.sink.now)
           c.args.depth c.count.result m s.tables _ _ c.count.ensures c.in_ok-mark.ensures.answer passed.tried passed.mark mapped refl
-          (walked_state (state_of s map) (visited m.small s.journal.small log.small) (visited m.large s.journal.large log.large) (visited m.spots s.journal.spots log.spots)
+          (walked_state (state_of s map) (visited m.used.small s.journal.used.small log.small) (visited m.used.large s.journal.used.large log.large) (visited m.used.spots s.journal.used.spots log.spots)
           s.tables c.undo.new.target c.undo-2.new.target c.undo_spots.new.above c.undo_spots.new.left (mid_of 0 (n - 0) map) c.undo_spots.new.cells _
           c.undo.ensures.state c.undo-2.ensures.state c.undo_spots.ensures.state own all)
           (c.cut.ensures.list ∙ ap (λ b. cond b (take m.entries (k.list c.args.sink.now)) (k.list c.args.sink.now)) within);

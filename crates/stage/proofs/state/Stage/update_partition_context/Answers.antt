@@ -6,6 +6,7 @@ use Rattle.cdf.specs.Lists.{from}
 use Rattle.stage.specs.declared.state.bytes.Side.TheVariants as side
 use Rattle.stage.specs.View.{lanes, state_of}
 use Rattle.stage.proofs.Contexts.{spans_inside, still_unused, update_unfit, update_unplaced, update_unlogged, updated_world}
+use Rattle.stage.proofs.Symbols.{same_trials}
 use Rattle.stage.proofs.state.Stage.update_partition_context.Goals as goal
 
 pub returns-then-not-fits_in : goal.returns-then-not-fits_in
@@ -68,7 +69,7 @@ set_bytes-requires-2 c =
     record {
       inside = omega (arith, s.beside, inside.1, c.height_mi-height.ensures.value);
       all = s.beside;
-      room = λ some. omega (arith, fit.spots (omega (arith, c.set_bytes.ensures.kept.0)), c.set_bytes.ensures.used, c.set_bytes.auto.spots);
+      room = λ some. omega (arith, fit.spots (omega (arith, same_trials _ _ c.set_bytes.ensures.kept)), c.set_bytes.ensures.used, c.set_bytes.auto.spots);
     }
 
 pub invariant_of-self : goal.invariant_of-self
@@ -78,7 +79,6 @@ invariant_of-self c =
     let two = c.set_bytes-2.ensures in
     record {
       ends = s.ends;
-      few = omega (arith, one.kept.0, two.kept.0, s.few);
       over = c.set_bytes.auto.bytes ∙ s.over;
       beside = c.set_bytes-2.auto.bytes ∙ s.beside;
       quiet =

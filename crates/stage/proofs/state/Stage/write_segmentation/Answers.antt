@@ -90,7 +90,6 @@ invariant_of-self g c =
     let kept = c.set_block.ensures.kept in
     record {
       ends = s.ends;
-      few = omega (arith, kept.0, s.few);
       over = s.over;
       beside = s.beside;
       quiet =
@@ -135,7 +134,7 @@ returns g c =
     (coded.step map) c.in_ok-block.ensures.answer active c.room.ensures (c.in_ok-ask_record.ensures.answer ∙ ap (λ n. record_asked s.journal (lanes c.args.log.now) c.room.result n (need 0 n (area c.in_ok-block.block))) count)
     (c.cols.ensures ∙ sym (ap (λ (t : Tile). t.cols) coded.tile)) own
     (ap (λ (i : ℕ). take i (put_mid 0 (n - 0) map c.set_block.new.cells)) (sym units') ∙ part_taken map c.set_block.new.cells n (n - 0) part fits long)
-    c.set_block.ensures.cells refl refl kept.0 kept.1 kept.2 kept.3 in
+    c.set_block.ensures.cells refl refl kept in
     record {
       step = recounted c.from-entries.result (bool_byte (not (is_none c.args.segment))) c.code_segment-set.result _ count ∙ step;
       cells =

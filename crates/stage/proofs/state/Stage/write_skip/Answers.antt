@@ -80,7 +80,6 @@ invariant_of-self g c =
     let kept = c.set_block.ensures.kept in
     record {
       ends = s.ends;
-      few = omega (arith, kept.0, s.few);
       over = s.over;
       beside = s.beside;
       quiet =
@@ -115,7 +114,7 @@ returns g c =
     (c.symbol.ensures.step map) c.in_ok-block.ensures.answer c.room.ensures c.in_ok-ask_record.ensures.answer
     (c.cols.ensures ∙ sym (ap (λ (t : Tile). t.cols) c.symbol.ensures.tile)) own
     (ap (λ (i : ℕ). take i (put_mid 0 (n - 0) map c.set_block.new.cells)) (sym units') ∙ part_taken map c.set_block.new.cells n (n - 0) part fits long)
-    c.set_block.ensures.cells refl refl kept.0 kept.1 kept.2 kept.3 in
+    c.set_block.ensures.cells refl refl kept in
     record {
       step = step;
       cells = λ ok.
