@@ -1,6 +1,6 @@
 -- The widths of symbols that rise add up to no more than the value before the first of them.
-use Rattle.std.proofs.Common.{◌≡◌, ℕ, zero, suc, ◌+◌, ◌-◌, ◌<◌, ◌≤◌, cond, ◌⊎◌, List, [], ◌∷◌, length, get_or, drop, refl, ap, ◌∙◌, inl, inr, arith}
-use Rattle.std.proofs.lemmas.List.{drop_more}
+use Rattle.std.proofs.Common.{◌≡◌, ℕ, zero, suc, ◌+◌, ◌-◌, ◌<◌, ◌≤◌, cond, ◌⊎◌, List, [], ◌∷◌, length, get_or, sum_by, refl, ap, ◌∙◌, inl, inr, arith}
+use Rattle.std.proofs.lemmas.List.Recursion.{is_sum_by}
 use Rattle.std.proofs.lemmas.Bool.{cases_lt, lt-ltb, le-ltb, ne_eqb}
 use Rattle.cdf.specs.declared.tables.edges.Edge.{Edge}
 use Rattle.cdf.specs.declared.tables.edges.Edge.TheVariants as edge
@@ -60,13 +60,6 @@ pub edge_most : (vs : List ℕ) (e : Edge) → LawfulTable vs → widths (length
 edge_most [] e falls = absurd falls
 edge_most (v ∷ vs) e falls = widths_most (length (v ∷ vs)) (v ∷ vs) 0 (edge_symbols e) refl falls (edge_rising e) (omega arith)
 
-pub edge_six : (e : Edge) → length (edge_symbols e) ≡ 6
-edge_six edge.Bottom = refl
-edge_six edge.Right = refl
-
--- the next of the listed symbols joins the sum
-pub next_width : (vs ss : List ℕ) (i sum here all : ℕ) → i < length ss → here ≡ width_of (length vs) vs (get_or ss i 0)
-    → sum + widths (length vs) vs (drop i ss) ≡ all → (sum + here) + widths (length vs) vs (drop (i + 1) ss) ≡ all
-next_width vs ss i sum here all l same inv =
-    let next : widths (length vs) vs (drop i ss) ≡ width_of (length vs) vs (get_or ss i 0) + widths (length vs) vs (drop (i + 1) ss) = ap (widths (length vs) vs) (drop_more ss i 0 l) in
-    omega arith
+-- as the library's sum
+pub widths_sum : (vs ss : List ℕ) → widths (length vs) vs ss ≡ sum_by (width_of (length vs) vs) ss
+widths_sum vs = is_sum_by (widths (length vs) vs) (width_of (length vs) vs) refl (λ s ss. refl)

@@ -1,28 +1,28 @@
 -- The entry of a symbol of a lawful table is an entry.
-use Rattle.std.proofs.Common.{◌≡◌, ℕ, zero, suc, ◌+◌, ◌<◌, ◌≤◌, Bool, true, false, cond, ◌&&◌, ◌||◌, T, eqb, ltb, leb, List, [], ◌∷◌, length, get_or, subst, arith, le→leb, eqb→eq, ltb→lt, lt→ltb, leb→le}
+use Rattle.std.proofs.Common.{◌≡◌, ℕ, zero, suc, ◌+◌, ◌<◌, ◌≤◌, Bool, true, false, cond, ◌&&◌, ◌||◌, T, eqb, ltb, leb, List, [], ◌∷◌, length, get_or, subst, refl, arith, le→leb, eqb→eq, ltb→lt, lt→ltb, leb→le}
 use native.Mathlib.Decide.{dec_lt, ℕ_discrete}
 use lib.Dec.{eqb_refl}
 use Rattle.std.proofs.lemmas.List.{get_or_past}
 use Rattle.cdf.specs.Entries.{is_entry}
-use Rattle.cdf.specs.Layout.{words_in_all, tables, all_descend, all_zero, fillers, lawful, table_sizes, in_layout, SoundWords}
-use Rattle.cdf.specs.Lists.{Each}
+use Rattle.cdf.specs.Layout.{words_in_all, tables, descends, all_descend, all_zero, fillers, lawful, table_sizes, in_layout}
 use Rattle.cdf.specs.Words.{Words, Table, words_of, fl_at, fh_at, entry_at, Descends, LawfulTable}
 use Rattle.cdf.proofs.Booleans.{and_first, and_second, and_both, true→T, T→true}
-use Rattle.cdf.proofs.Layouts.{Member, member_in_layout, table_most, each_descends, sizes_number}
+use Rattle.cdf.proofs.Layouts.{Member, member_in_layout, descends_back, sizes_number}
 use Rattle.cdf.proofs.Ranges.{all_below, all_below_at}
-use Rattle.cdf.proofs.Symbols.{length_table}
 
-each_at : {A : Type 0} (P : A → Type 0) (xs : List A) (x : A) (i : ℕ) → Each P xs → Member x xs i → P x
-each_at P [] x i e m = absurd m
-each_at P (y ∷ ys) x zero e m = subst P m e.0
-each_at P (y ∷ ys) x (suc i) e m = each_at P ys x i e.1 m
+all_at : (w : Words) (ts : List Table) (t : Table) (i : ℕ) → T (all_descend w ts) → Member t ts i → T (descends 32768 (words_of w t))
+all_at w [] t i h m = absurd m
+all_at w (u ∷ ts) t zero h m = subst (λ (x : Table). T (descends 32768 (words_of w x))) m (and_first (descends 32768 (words_of w u)) (all_descend w ts) h)
+all_at w (u ∷ ts) t (suc i) h m = all_at w ts t i (and_second (descends 32768 (words_of w u)) (all_descend w ts) h) m
 
-pub table_lawful : (w : Words) (t : Table) → in_layout t ≡ true → SoundWords w → LawfulTable (words_of w t)
+pub lawful_words : (vs : List ℕ) → descends 32768 vs ≡ true → LawfulTable vs
+lawful_words vs h = descends_back 32768 vs (true→T (descends 32768 vs) h)
+
+pub table_lawful : (w : Words) (t : Table) → in_layout t ≡ true → lawful w ≡ true → descends 32768 (words_of w t) ≡ true
 unfolding lawful
-table_lawful w t h sound =
+table_lawful w t h fits =
     let member : (i : ℕ) × Member t tables i = member_in_layout t h in
-    each_at (λ u. LawfulTable (words_of w u)) tables t member.0
-    (each_descends w tables (and_first (all_descend w tables) (all_zero w fillers) (true→T (all_descend w tables && all_zero w fillers) sound.fits))) member.1
+    T→true _ (all_at w tables t member.0 (and_first (all_descend w tables) (all_zero w fillers) (true→T (all_descend w tables && all_zero w fillers) fits)) member.1)
 
 -- no table has one symbol only
 sizes_least : T (all_below words_in_all (λ f. eqb (get_or table_sizes f 0) 0 || leb 2 (get_or table_sizes f 0)))
@@ -83,23 +83,17 @@ value_order count vs s long falls l = upper s (eqb (suc s) count) (eqb→eq (suc
     more (yes e) n = absurd (n (subst (λ k. T (eqb (suc s) k)) e (eqb_refl (suc s))))
     more (no e) n = omega (arith, l)
 
-pub entry_lawful : (w : Words) (t : Table) (s : ℕ) → in_layout t ≡ true → SoundWords w → s < t.count → is_entry (entry_at t.count (words_of w t) s) ≡ true
-entry_lawful w t s h sound below =
-    T→true (is_entry (entry_at t.count vs s))
-    (and_both (ltb s t.count) _ (lt→ltb s t.count below)
-    (and_both (leb 2 t.count) _ (le→leb 2 t.count (table_least t h))
-    (and_both (leb t.count 16) _ (le→leb t.count 16 (table_most t h))
-    (and_both (leb (fh_at t.count vs s) (fl_at vs s)) _ (le→leb _ _ (value_order t.count (words_of w t) s long falls below)) (le→leb _ _ (high s below))))))
+pub entry_lawful : (vs : List ℕ) (s : ℕ) → descends 32768 vs ≡ true → 2 ≤ length vs → length vs ≤ 16 → s < length vs → is_entry (entry_at (length vs) vs s) ≡ true
+entry_lawful vs s lawful least most below =
+    T→true (is_entry (entry_at (length vs) vs s))
+    (and_both (ltb s (length vs)) _ (lt→ltb s (length vs) below)
+    (and_both (leb 2 (length vs)) _ (le→leb 2 (length vs) least)
+    (and_both (leb (length vs) 16) _ (le→leb (length vs) 16 most)
+    (and_both (leb (fh_at (length vs) vs s) (fl_at vs s)) _ (le→leb _ _ (value_order (length vs) vs s refl falls below)) (le→leb _ _ (high s below))))))
   where
-    vs : List ℕ
-    vs = words_of w t
+    falls : LawfulTable vs
+    falls = lawful_words vs lawful
 
-    long : length (words_of w t) ≡ t.count
-    long = length_table w t h sound.number
-
-    falls : Descends 32768 (words_of w t)
-    falls = table_lawful w t h sound
-
-    high : (s : ℕ) → s < t.count → fl_at (words_of w t) s ≤ 32768
+    high : (s : ℕ) → s < length vs → fl_at vs s ≤ 32768
     high zero l = omega arith
-    high (suc s) l = value_high 32768 (words_of w t) s falls (omega (arith, long))
+    high (suc s) l = value_high 32768 vs s falls (omega arith)

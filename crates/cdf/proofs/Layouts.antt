@@ -96,7 +96,7 @@ all_descend_test : (w : Words) (ts : List Table) → Each (λ t. LawfulTable (wo
 all_descend_test w [] e = tt
 all_descend_test w (t ∷ ts) e = and_both (descends 32768 (words_of w t)) (all_descend w ts) (descends_test 32768 (words_of w t) e.0) (all_descend_test w ts e.1)
 
-descends_back : (top : ℕ) (vs : List ℕ) → T (descends top vs) → Descends top vs
+pub descends_back : (top : ℕ) (vs : List ℕ) → T (descends top vs) → Descends top vs
 descends_back top [] h = h
 descends_back top (c ∷ []) h = leb→le c 32 h
 descends_back top (v ∷ x ∷ []) h = (leb→le v top (and_first (leb v top) (leb x 32) h), leb→le x 32 (and_second (leb v top) (leb x 32) h))

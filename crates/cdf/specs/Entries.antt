@@ -1,5 +1,5 @@
 -- What an entry is.
-use Rattle.std.specs.Prelude.{ℕ, Bool, cond, ◌&&◌, List, [], ◌∷◌, Some, None, Option, nat_le, nat_lt}
+use Rattle.std.specs.Prelude.{ℕ, Bool, cond, ◌&&◌, List, [], ◌∷◌, length, Some, None, Option, nat_le, nat_lt}
 use Rattle.cdf.specs.declared.entry.Entry.{Entry}
 use Rattle.cdf.specs.declared.tables.edges.Edge.{Edge}
 use Rattle.cdf.specs.declared.tables.edges.Edge.TheVariants as edge
@@ -9,6 +9,10 @@ use Rattle.cdf.specs.Words.{Words, Table, words_of, entry_at, widths}
 -- s < N, N in 2..16, fh ≤ fl ≤ 32768
 abbrev pub is_entry : Entry → Bool
 is_entry e = nat_lt e.s e.n && (nat_le 2 e.n && (nat_le e.n 16 && (nat_le e.fh e.fl && nat_le e.fl 32768)))
+
+-- the entry of a symbol of a table, where the table has the symbol
+abbrev pub entry_in : List ℕ → ℕ → Option Entry
+entry_in vs s = cond (nat_lt s (length vs)) (Some (entry_at (length vs) vs s)) None
 
 -- the entry of a symbol, where the layout has the table and the table the symbol
 abbrev pub entry_if : Words → Table → ℕ → Option Entry

@@ -1,6 +1,7 @@
 ghost use Rattle.std.specs.Prelude.{◌≡◌, true, length};
 ghost use Rattle.cdf.specs.Layout.{lawful};
 
+mod cdf;
 pub mod edges;
 mod symbols;
 mod windows;

@@ -1,0 +1,52 @@
+ghost use Rattle.std.specs.Prelude.{◌≡◌, ◌≤◌, true, length, IfSome};
+ghost use Rattle.cdf.specs.Entries.{is_entry, edge_symbols, entry_in};
+ghost use Rattle.cdf.specs.Layout.{descends};
+ghost use Rattle.cdf.specs.Words.{width_of, widths};
+
+use crate::entry::Entry;
+use crate::tables::edges::Edge;
+
+// The words of one table: values that do not rise, and then the counter.
+#[derive(Clone, Copy)]
+pub(super) struct Cdf<'a> {
+    pub(super) words: &'a [u16],
+    ghost lawful: { descends 32768 words.now ≡ true },
+    ghost least: { 2 ≤ length words.now },
+    ghost most: { length words.now ≤ 16 },
+}
+
+impl Cdf<'_> {
+    // The entry of symbol `s`, None where the table has no such symbol.
+    pub(super) fn entry(&self, s: usize) -> Option<Entry>
+        ensures entry { result ≡ entry_in self.now.words.now s }
+        ensures lawful { IfSome result (λ e. is_entry e ≡ true) }
+    {
+        let n = self.words.len();
+        if s >= n {
+            return None;
+        }
+        let fl = if s == 0 { 32768 } else { self.words[s - 1] };
+        let fh = if s + 1 == n { 0 } else { self.words[s] };
+        Some(Entry {
+            s: s as u8,
+            n: n as u8,
+            fl,
+            fh,
+        })
+    }
+
+    // The width of a symbol, 0 of one that the table has not.
+    fn width(&self, s: usize) -> u16
+        ensures { result ≡ width_of (length self.now.words.now) self.now.words.now s }
+    {
+        self.entry(s).map_or(0, |e| e.fl - e.fh)
+    }
+
+    // The sum of the widths of the symbols that are like a SPLIT.
+    pub(super) fn gather(&self, edge: Edge) -> u16
+        ensures value { result ≡ widths (length self.now.words.now) self.now.words.now (edge_symbols edge) }
+        ensures most { result ≤ 32768 }
+    {
+        edge.symbols().iter().map(|&s| self.width(s)).sum()
+    }
+}
