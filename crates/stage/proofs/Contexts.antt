@@ -1,4 +1,5 @@
 -- The partition contexts, set byte by byte, and what that is in the model.
+use Rattle.journal.specs.declared.Mark.{Mark}
 use Rattle.stage.specs.Lanes.{OnlySpots}
 use Rattle.stage.proofs.Symbols.{same_marks, same_trials, none_open}
 use Rattle.stage.specs.View.{open_trials}

@@ -1,4 +1,5 @@
 -- A partition of the stage is the model's.
+use Rattle.journal.specs.declared.Counts.{Counts}
 use Rattle.stage.specs.View.{open_trials}
 use Rattle.std.proofs.Common.{◌≡◌, ℕ, zero, suc, ◌+◌, ◌-◌, ◌*◌, ◌<◌, Bool, true, false, cond, not, ◌&&◌, eqb, leb, List, [], ◌∷◌, ◌++◌, length, Some, None, Ok, Err, Result, sym, refl, ap, ◌∙◌, ap₂, arith}
 use mathlib.Core.Option.{Option}
@@ -130,10 +131,10 @@ pub same_fit : (s : State) (x y : ℕ) (z : BlockSize) (r c : Bool) (t : Table) 
     → partition_allowed r c t p ≡ fitting s x y z q
 same_fit s x y z r c t p q rows columns tab num = λ i. partition_allowed (rows i) (columns i) (tab i) (num i)
 
-pub same_taken : (s : State) (j : Journal) (l : Lent stage) (x y : ℕ) (z : BlockSize) (r c : Bool) (t : Table) (entries small large room room' : ℕ) → r ≡ has_rows s y z → c ≡ has_columns s x z → t ≡ table_at s x y z
-    → entries ≡ entries_at r c → small ≡ small_at r c t.count → large ≡ large_at r c t.count → room ≡ room' → record_asked j l room entries (need small large 0) ≡ taken s j l x y z room'
-same_taken s j l x y z r c t entries small large room room' rows columns tab e a b same =
-    (λ i. record_asked j l (same i) (e i) (need (a i) (b i) 0)) ∙ (λ i. record_asked j l room' (entries_at (rows i) (columns i)) (need (small_at (rows i) (columns i) (tab i).count) (large_at (rows i) (columns i) (tab i).count) 0))
+pub same_taken : (s : State) (j : Journal) (l : Lent stage) (x y : ℕ) (z : BlockSize) (r c : Bool) (t : Table) (entries : ℕ) (n : Counts) (room room' : ℕ) → r ≡ has_rows s y z → c ≡ has_columns s x z → t ≡ table_at s x y z
+    → entries ≡ entries_at r c → n ≡ need (small_at r c t.count) (large_at r c t.count) 0 → room ≡ room' → record_asked j l room entries n ≡ taken s j l x y z room'
+same_taken s j l x y z r c t entries n room room' rows columns tab e a same =
+    (λ i. record_asked j l (same i) (e i) (a i)) ∙ (λ i. record_asked j l room' (entries_at (rows i) (columns i)) (need (small_at (rows i) (columns i) (tab i).count) (large_at (rows i) (columns i) (tab i).count) 0))
 
 pub same_coded : (s : State) (x y : ℕ) (z : BlockSize) (r c : Bool) (t : Table) (p q : ℕ) (w : World stage) → r ≡ has_rows s y z → c ≡ has_columns s x z → t ≡ table_at s x y z → p ≡ q
     → symbol_steps (partition_tree r c t) (partition_path r c p) w ≡ symbol_steps (partition_tree (has_rows s y z) (has_columns s x z) (table_at s x y z)) (partition_path (has_rows s y z) (has_columns s x z) q) w

@@ -1,7 +1,7 @@
 use Rattle.std.proofs.Common.{◌<◌, [], ◌∷◌, refl, ap, ◌∙◌, arith, rules}
 use Rattle.journal.specs.declared.Spot.{Spot}
 use Rattle.model.specs.Runs.{Lane}
-use Rattle.stage.specs.View.{lane}
+use Rattle.stage.specs.View.{lane, open_trials}
 use Rattle.stage.proofs.Symbols.{log_open}
 use Rattle.stage.proofs.state.Journal.log_spot.Goals as goal
 

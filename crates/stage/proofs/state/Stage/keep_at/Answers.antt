@@ -14,22 +14,21 @@ returns-in_err-ask_innermost c =
       still = λ h. refl;
     })
 
-pub returns-then-self : goal.returns-then-self
-returns-then-self c =
+pub returns-then-is_empty : goal.returns-then-is_empty
+returns-then-is_empty c =
     let s = c.args.self.now in
     let kept = c.pop.new.self in
     let last : length kept.items ≡ 0 = search rules in
     let out : eqb (length kept.items) 0 ≡ true = eq-eqb (length kept.items) 0 last in
-    let none = c.default.ensures in
     record {
       step = λ memory rooms l entries. keep_accepted (length memory) rooms (state_of s memory) s.journal l entries c.args.depth tt
-          (record { marks = kept; used = c.default.result }) c.in_ok-ask_innermost.ensures.open c.in_ok-ask_innermost.ensures.answer c.pop.ensures.rest
+          (record { marks = kept; used = c.default-self.result }) c.in_ok-ask_innermost.ensures.open c.in_ok-ask_innermost.ensures.answer c.pop.ensures.rest
           (search rules) (search rules) (search rules);
       still = λ h. absurd (both_ways true h refl);
     }
 
-pub returns-else-self : goal.returns-else-self
-returns-else-self c =
+pub returns-else-is_empty : goal.returns-else-is_empty
+returns-else-is_empty c =
     let s = c.args.self.now in
     let kept = c.pop.new.self in
     let more : eqb (length kept.items) 0 ≡ false = search rules in

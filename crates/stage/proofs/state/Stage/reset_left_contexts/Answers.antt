@@ -4,8 +4,8 @@ use Rattle.stage.specs.View.{open_trials, state_of}
 use Rattle.stage.proofs.Contexts.{row_refused, row_started}
 use Rattle.stage.proofs.state.Stage.reset_left_contexts.Goals as goal
 
-pub returns-then-not-self : goal.returns-then-not-self
-returns-then-not-self c =
+pub returns-then-not-is_empty : goal.returns-then-not-is_empty
+returns-then-not-is_empty c =
     let s = c.args.self.now in
     let some : 0 < open_trials s.journal = search rules in
     record { step = λ memory rooms l entries. row_refused (length memory) rooms (state_of s memory) s.journal l entries some; still = λ h. refl }

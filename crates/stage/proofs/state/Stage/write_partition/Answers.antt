@@ -5,6 +5,7 @@ use Rattle.av1.specs.Partitions.{number}
 use Rattle.av1.specs.Sizes.{level}
 use Rattle.av1.specs.declared.tile.Cell.{Cell}
 use Rattle.cdf.specs.Words.{table}
+use Rattle.journal.specs.declared.Counts.{Counts}
 use Rattle.stage.specs.Partitions.{entries_at}
 use Rattle.stage.specs.View.{lanes, state_of, world}
 use Rattle.stage.proofs.Partitions.{same_table, same_fit, same_taken, same_coded, refused_square, refused_partition, refused_record, accepted}
@@ -68,10 +69,11 @@ returns-in_err-ask_record g c =
     let lev : lv ≡ level z = ap (λ (e : ℕ). e - 3) c.width_log2-level.ensures in
     let tab = λ (memory : List Cell). same_table (state_of s memory) x y z lv ctx first n lev c.partition_plane_context-ctx.ensures.value c.partition_table-first.ensures.value in
     let fit = λ (memory : List Cell). c.is_allowed.ensures first ∙ same_fit (state_of s memory) x y z r b (table first n) p (number c.args.p) c.has_rows-rows.ensures c.has_cols-cols.ensures (tab memory) refl in
-    let needed = c.records-entries.ensures in
+    let entries = c.records-entries.ensures.entries in
+    let windows = c.records-entries.ensures.need in
     let asked = λ (memory : List Cell).
-    same_taken (state_of s memory) s.journal (lanes c.args.log.now) x y z r b (table first n) c.records-entries.result.0 c.records-entries.result.1 c.records-entries.result.2 c.room.result (k.rooms c.args.sink.now (k.list c.args.sink.now))
-    c.has_rows-rows.ensures c.has_cols-cols.ensures (tab memory) needed.0 needed.1 needed.2 c.room.ensures in
+    same_taken (state_of s memory) s.journal (lanes c.args.log.now) x y z r b (table first n) c.records-entries.result.0 c.records-entries.result.1 c.room.result (k.rooms c.args.sink.now (k.list c.args.sink.now))
+    c.has_rows-rows.ensures c.has_cols-cols.ensures (tab memory) entries windows c.room.ensures in
     let yes : c.is_allowed.result ≡ true = search rules in
     let e = err_from_is_err_and c.from_residual-in_err-ask_record.result c.from_residual-in_err-ask_record.ensures.1 in
     rw (e.1, e.2) (record {
@@ -100,16 +102,17 @@ returns g c =
     let lev : lv ≡ level z = ap (λ (e : ℕ). e - 3) c.width_log2-level.ensures in
     let tab = λ (memory : List Cell). same_table (state_of s memory) x y z lv ctx first n lev c.partition_plane_context-ctx.ensures.value c.partition_table-first.ensures.value in
     let fit = λ (memory : List Cell). c.is_allowed.ensures first ∙ same_fit (state_of s memory) x y z r b (table first n) p (number c.args.p) c.has_rows-rows.ensures c.has_cols-cols.ensures (tab memory) refl in
-    let needed = c.records-entries.ensures in
+    let entries = c.records-entries.ensures.entries in
+    let windows = c.records-entries.ensures.need in
     let asked = λ (memory : List Cell).
-    same_taken (state_of s memory) s.journal (lanes c.args.log.now) x y z r b (table first n) c.records-entries.result.0 c.records-entries.result.1 c.records-entries.result.2 c.room.result (k.rooms c.args.sink.now (k.list c.args.sink.now))
-    c.has_rows-rows.ensures c.has_cols-cols.ensures (tab memory) needed.0 needed.1 needed.2 c.room.ensures in
+    same_taken (state_of s memory) s.journal (lanes c.args.log.now) x y z r b (table first n) c.records-entries.result.0 c.records-entries.result.1 c.room.result (k.rooms c.args.sink.now (k.list c.args.sink.now))
+    c.has_rows-rows.ensures c.has_cols-cols.ensures (tab memory) entries windows c.room.ensures in
     let yes : c.is_allowed.result ≡ true = search rules in
     record {
       step = λ memory.
           accepted (length memory) (k.rooms c.args.sink.now) (state_of s memory) s.journal (lanes c.args.log.now) (k.list c.args.sink.now) x y z (number c.args.p)
           tt c.in_ok-ask_square.ensures.answer _ c.records-entries.result.0 tt (sym (fit memory) ∙ yes) (c.in_ok-ask_record.ensures.answer ∙ asked memory)
-          (needed.0 ∙ ap₂ entries_at c.has_rows-rows.ensures c.has_cols-cols.ensures)
+          (entries ∙ ap₂ entries_at c.has_rows-rows.ensures c.has_cols-cols.ensures)
           (c.code_partition.ensures.step memory
           ∙ same_coded (state_of s memory) x y z r b (table first n) p (number c.args.p) (world s memory (lanes c.args.log.now) (k.list c.args.sink.now)) c.has_rows-rows.ensures c.has_cols-cols.ensures (tab memory) refl);
       rooms = c.code_partition.ensures.rooms;
