@@ -1,8 +1,9 @@
 -- The parts of a vector's components: their tables, the room that they take, and what was coded of them.
-use Rattle.std.proofs.Common.{◌≡◌, ℕ, zero, suc, ◌+◌, ◌-◌, ◌*◌, ◌/◌, ◌%◌, ◌<◌, ◌≤◌, Bool, true, false, cond, T, leb, [], ◌∷◌, ◌++◌, ℤ, pos, negsuc, Some, None, Option, sym, refl, ap, ◌∙◌, subst, subst₂, inl, inr, arith, leb→le}
+use Rattle.std.proofs.Common.{◌≡◌, ℕ, zero, suc, ◌+◌, ◌-◌, ◌*◌, ◌/◌, ◌%◌, ◌<◌, ◌≤◌, Bool, true, false, cond, T, leb, [], ◌∷◌, ◌++◌, ℤ, pos, negsuc, Some, None, Option, sym, refl, ap, ◌∙◌, subst, subst₂, inl, inr, ◌⊎◌, ◌||◌, eqb, arith, leb→le, eqb→eq}
 use Rattle.av1.specs.declared.mv.MvSubpelPrecision.{MvSubpelPrecision}
 use Rattle.av1.specs.declared.mv.MvSubpelPrecision.TheVariants as at
 use Rattle.av1.specs.Vectors.{class_base, class_of, magnitude, nonzero, offset_of, sign_bit, signed}
+use Rattle.cdf.specs.Layout.{row_base, col_base}
 use Rattle.model.specs.Tree.{Syntax, and_then, one, read_by}
 use Rattle.model.specs.Vector.{Fits, class_width, component_if, component_path, component_tree, fraction_path, fraction_tree, high_path, high_tree, integer_path, integer_tree, path_if, present, step_of}
 use Rattle.model.proofs.Vectors.{Inside, fits_less, inside, leads_fraction, leads_integer}
@@ -12,13 +13,27 @@ use Rattle.stage.specs.Vectors.{Component, component_count, fraction_count, frac
 use Rattle.stage.proofs.Coding.{coded_by, coded_then, recount}
 
 -- the tables of a component
+one_of : (b : ℕ) → Component b → (b ≡ row_base) ⊎ (b ≡ col_base)
+one_of b h = go (eqb b row_base) (eqb b col_base) (eqb→eq b row_base) (eqb→eq b col_base) h
+  where
+    go : (r c : Bool) → (T r → b ≡ row_base) → (T c → b ≡ col_base) → (r || c) ≡ true → (b ≡ row_base) ⊎ (b ≡ col_base)
+    go true c f g e = inl (f tt)
+    go false true f g e = inr (g tt)
+    go false false f g e = cc
+
 base_of : (b : ℕ) → Component b → Base b
-base_of b (inl e) = subst Base (sym e) base_row
-base_of b (inr e) = subst Base (sym e) base_col
+base_of b h = go (one_of b h)
+  where
+    go : (b ≡ row_base) ⊎ (b ≡ col_base) → Base b
+    go (inl e) = subst Base (sym e) base_row
+    go (inr e) = subst Base (sym e) base_col
 
 pub component_inside : (b : ℕ) → Component b → b ≤ 374
-component_inside b (inl e) = omega arith
-component_inside b (inr e) = omega arith
+component_inside b h = go (one_of b h)
+  where
+    go : (b ≡ row_base) ⊎ (b ≡ col_base) → b ≤ 374
+    go (inl e) = omega arith
+    go (inr e) = omega arith
 
 pub sign_in_layout : (b : ℕ) → Component b → At b 2
 sign_in_layout b h = moved_in_layout (b + 2 * 0) b 2 (omega arith) ((base_of b h).two 0 (omega arith))

@@ -1,5 +1,5 @@
 -- How many symbols the parts of a vector have, and the tables that are chosen by the class.
-use Rattle.std.specs.Prelude.{◌≡◌, ℕ, zero, suc, ◌+◌, ◌*◌, ◌/◌, ◌%◌, ◌⊎◌, List, ◌++◌, ℤ}
+use Rattle.std.specs.Prelude.{◌≡◌, ℕ, zero, suc, ◌+◌, ◌*◌, ◌/◌, ◌%◌, Bool, true, ◌||◌, List, ◌++◌, ℤ, ◌==◌}
 use Rattle.av1.specs.declared.mv.MvSubpelPrecision.{MvSubpelPrecision}
 use Rattle.av1.specs.declared.mv.MvSubpelPrecision.TheVariants as at
 use Rattle.av1.specs.Vectors.{class_base, class_of, signed}
@@ -9,7 +9,7 @@ use Rattle.model.specs.Vector.{fraction_path, fraction_tree, high_path, high_tre
 
 -- the words of a component's tables begin at one of two places: those of the row, or those of the column
 abbrev pub Component : ℕ → Type 0
-Component b = (b ≡ row_base) ⊎ (b ≡ col_base)
+Component b = (b == row_base || b == col_base) ≡ true
 
 abbrev pub integer_count : ℕ → ℕ
 integer_count zero = 1

@@ -5,12 +5,14 @@ use Rattle.av1.specs.declared.refusal.Refusal.{Refusal}
 use Rattle.av1.specs.declared.tile.Cell.{Cell}
 use Rattle.av1.specs.Tiles.{no_cell}
 use Rattle.cdf.specs.declared.entry.Entry.{Entry}
+use Rattle.cdf.specs.Words.{Table, table}
 use Rattle.journal.specs.declared.Log.{Log}
 use Rattle.journal.specs.declared.Mark.{Mark}
 use Rattle.model.specs.Decisions.{State, stage}
 use Rattle.model.specs.Runs.{World, Lane, Lent}
 use Rattle.stage.specs.declared.state.Journal.{Journal}
 use Rattle.stage.specs.declared.state.Stage.{Stage}
+use Rattle.stage.specs.declared.state.Table.{Table as Place}
 use Rattle.stage.specs.declared.state.Trial.{Trial}
 
 abbrev pub no_mark : Mark
@@ -58,6 +60,10 @@ world_at s j l entries =
 
 abbrev pub world : Stage → List Cell → Lent stage → List Entry → World stage
 world s memory l entries = world_at (state_of s memory) s.journal l entries
+
+-- a table as the model names it
+abbrev pub table_of : Place → Table
+table_of t = table t.first t.n
 
 -- the first question of a call that was answered by no
 abbrev pub refused_by : {A : Type 0} → Result A Refusal → Option Refusal

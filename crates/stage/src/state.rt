@@ -1,4 +1,6 @@
-ghost use Rattle.std.specs.Prelude.{◌≡◌, ◌≤◌, length};
+ghost use Rattle.std.specs.Prelude.{◌≡◌, ◌≤◌, true, length};
+ghost use Rattle.cdf.specs.Layout.{in_layout};
+ghost use Rattle.cdf.specs.Words.{table};
 
 use arrayvec::ArrayVec;
 use av1::Tile;
@@ -33,6 +35,14 @@ pub(crate) struct Contexts {
 pub(crate) struct Journal {
     marks: ArrayVec<Mark, 16>,
     used: Counts,
+}
+
+/// A table of the layout: its first word, and its number of symbols.
+#[derive(Clone, Copy)]
+pub(crate) struct Table {
+    first: usize,
+    n: usize,
+    ghost there: { in_layout (table first n) ≡ true },
 }
 
 /// An open trial. It carries its depth alone, and can be neither copied nor let go: `Stage::keep` ends it.

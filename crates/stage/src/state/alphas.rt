@@ -6,7 +6,7 @@ ghost use Rattle.stage.specs.Alphas.{scale_count, scale_step};
 ghost use Rattle.stage.specs.Lanes.{SameMemory};
 ghost use Rattle.stage.specs.View.{lanes, open_trials, world};
 
-use crate::state::Stage;
+use crate::state::{Stage, Table};
 use av1::{CFLParams, Refusal};
 use journal::{Counts, Log};
 use record::Sink;
@@ -30,7 +30,7 @@ impl Stage {
         ensures trials { open_trials self.new.journal ≡ open_trials self.old.journal }
     {
         if let Some((context, index)) = scale {
-            self.symbol(sink, log, 206 + 16 * context, 16, index);
+            self.symbol(sink, log, Table { first: 206 + 16 * context, n: 16 }, index);
         }
     }
 
@@ -63,7 +63,7 @@ impl Stage {
             },
         )?;
         let [first, second] = cfl.scales();
-        self.symbol(sink, log, 22, 8, cfl.joint_sign());
+        self.symbol(sink, log, Table { first: 22, n: 8 }, cfl.joint_sign());
         self.code_scale(sink, log, first);
         self.code_scale(sink, log, second);
         Ok(entries)

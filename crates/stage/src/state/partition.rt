@@ -4,7 +4,6 @@ ghost use Rattle.av1.specs.declared.tile.Cell.{Cell};
 ghost use Rattle.av1.specs.Partitions.{number};
 ghost use Rattle.av1.specs.Sizes.{splits, level};
 ghost use Rattle.cdf.specs.Entries.{edge_symbols};
-ghost use Rattle.cdf.specs.Layout.{in_layout};
 ghost use Rattle.cdf.specs.Words.{table};
 ghost use Rattle.model.specs.declared.Question.TheVariants as question;
 ghost use Rattle.model.specs.Calls.{decision_step, symbol_step, symbol_steps};
@@ -14,10 +13,10 @@ ghost use Rattle.model.specs.Runs.{Lent};
 ghost use Rattle.stage.specs.Lanes.{SameMemory};
 ghost use Rattle.stage.specs.Questions.{need};
 ghost use Rattle.stage.specs.Partitions.{context_at, entries_at, small_at, large_at};
-ghost use Rattle.stage.specs.View.{lanes, open_trials, world};
+ghost use Rattle.stage.specs.View.{lanes, open_trials, table_of, world};
 
 use crate::state::symbols::put_entry;
-use crate::state::{Contexts, Stage};
+use crate::state::{Contexts, Stage, Table};
 use av1::{BlockSize, PartitionType, Refusal, TileBlockOffset};
 use cdf::Edge;
 use journal::{Counts, Log};
@@ -37,16 +36,20 @@ impl Contexts {
     }
 }
 
-// The table of a square of side 8 × 2^`level` in a context: its first word and its number of symbols.
-fn partition_table(level: usize, ctx: usize) -> (usize, usize)
+// The table of a square of side 8 × 2^`level` in a context.
+fn partition_table(level: usize, ctx: usize) -> Table
     requires { (level ≤ 3) × (ctx ≤ 3) }
-    ensures value { table result.0 result.1 ≡ partition_table level ctx }
-    ensures layout { in_layout (table result.0 result.1) ≡ true }
+    ensures { table_of result ≡ partition_table level ctx }
 {
     if level == 0 {
-        (6 + 4 * ctx, 4)
-    } else {
-        (86 + 10 * (4 * (level - 1) + ctx), 10)
+        return Table {
+            first: 6 + 4 * ctx,
+            n: 4,
+        };
+    }
+    Table {
+        first: 86 + 10 * (4 * (level - 1) + ctx),
+        n: 10,
     }
 }
 
@@ -88,14 +91,13 @@ fn records(rows: bool, cols: bool, n: usize) -> (usize, Counts)
 
 impl Stage {
     // Codes symbol `s` at an edge. The table that it is summed from does not adapt.
-    fn edge_symbol<S: Sink>(&self, sink: &mut S, first: usize, n: usize, edge: Edge, s: usize)
-        requires table { in_layout (table first n) ≡ true }
+    fn edge_symbol<S: Sink>(&self, sink: &mut S, table: Table, edge: Edge, s: usize)
         requires symbol { s < 2 }
         requires room { 0 < S.Sink.rooms sink.old (S.Sink.list sink.old) }
-        ensures step { (memory : List Cell) (l : Lent stage) → world self.now memory l (S.Sink.list sink.new) ≡ symbol_step (coder.edge (table first n) (edge_symbols edge)) s (world self.now memory l (S.Sink.list sink.old)) }
+        ensures step { (memory : List Cell) (l : Lent stage) → world self.now memory l (S.Sink.list sink.new) ≡ symbol_step (coder.edge (table_of table) (edge_symbols edge)) s (world self.now memory l (S.Sink.list sink.old)) }
         ensures rooms { S.Sink.rooms sink.new ≡ S.Sink.rooms sink.old }
     {
-        let Some(entry) = self.tables.edge_symbol(first, n, edge, s) else {
+        let Some(entry) = self.tables.edge_symbol(table.first, table.n, edge, s) else {
             unreachable()
         };
         put_entry(sink, entry);
@@ -109,23 +111,21 @@ impl Stage {
         log: &mut Log<'_>,
         rows: bool,
         cols: bool,
-        first: usize,
-        n: usize,
+        table: Table,
         p: PartitionType,
     )
-        requires table { in_layout (table first n) ≡ true }
-        requires allowed { partition_allowed rows cols (table first n) (number p) ≡ true }
+        requires allowed { partition_allowed rows cols (table_of table) (number p) ≡ true }
         requires room { entries_at rows cols ≤ S.Sink.rooms sink.old (S.Sink.list sink.old) }
-        requires small { 0 < open_trials self.old.journal → self.old.journal.used.small + small_at rows cols n ≤ length log.old.small.now }
-        requires large { 0 < open_trials self.old.journal → self.old.journal.used.large + large_at rows cols n ≤ length log.old.large.now }
-        ensures step { (memory : List Cell) → world self.new memory (lanes log.new) (S.Sink.list sink.new) ≡ symbol_steps (partition_tree rows cols (table first n)) (partition_path rows cols (number p)) (world self.old memory (lanes log.old) (S.Sink.list sink.old)) }
+        requires small { 0 < open_trials self.old.journal → self.old.journal.used.small + small_at rows cols table.n ≤ length log.old.small.now }
+        requires large { 0 < open_trials self.old.journal → self.old.journal.used.large + large_at rows cols table.n ≤ length log.old.large.now }
+        ensures step { (memory : List Cell) → world self.new memory (lanes log.new) (S.Sink.list sink.new) ≡ symbol_steps (partition_tree rows cols (table_of table)) (partition_path rows cols (number p)) (world self.old memory (lanes log.old) (S.Sink.list sink.old)) }
         ensures rooms { S.Sink.rooms sink.new ≡ S.Sink.rooms sink.old }
         ensures memory { SameMemory log.new log.old }
     {
         match (rows, cols) {
-            (true, true) => self.symbol(sink, log, first, n, p.number()),
-            (false, true) => self.edge_symbol(sink, first, n, Edge::Bottom, symbol_at_edge(p)),
-            (true, false) => self.edge_symbol(sink, first, n, Edge::Right, symbol_at_edge(p)),
+            (true, true) => self.symbol(sink, log, table, p.number()),
+            (false, true) => self.edge_symbol(sink, table, Edge::Bottom, symbol_at_edge(p)),
+            (true, false) => self.edge_symbol(sink, table, Edge::Right, symbol_at_edge(p)),
             (false, false) => {}
         }
     }
@@ -151,13 +151,13 @@ impl Stage {
         let cols = tile.has_cols(bo.x, bsize);
         let level = bsize.width_log2() - 3;
         let ctx = self.contexts.partition_plane_context(bo, level);
-        let (first, n) = partition_table(level, ctx);
-        if !is_allowed(rows, cols, n, p) {
+        let table = partition_table(level, ctx);
+        if !is_allowed(rows, cols, table.n, p) {
             return Err(Refusal::Partition);
         }
-        let (entries, need) = records(rows, cols, n);
+        let (entries, need) = records(rows, cols, table.n);
         self.journal.ask_record(log, sink.room(), entries, need)?;
-        self.code_partition(sink, log, rows, cols, first, n, p);
+        self.code_partition(sink, log, rows, cols, table, p);
         Ok(entries)
     }
 }

@@ -1,16 +1,14 @@
 ghost use Rattle.std.specs.Prelude.{◌≡◌, ◌+◌, ◌<◌, ◌≤◌, true, List, [], ◌∷◌, ◌++◌, length};
 ghost use Rattle.av1.specs.declared.tile.Cell.{Cell};
 ghost use Rattle.cdf.specs.Entries.{is_entry};
-ghost use Rattle.cdf.specs.Layout.{in_layout};
-ghost use Rattle.cdf.specs.Words.{table};
 ghost use Rattle.model.specs.Calls.{log_if, small_log, large_log, symbol_step};
 ghost use Rattle.model.specs.Coders.{whole};
 ghost use Rattle.model.specs.Decisions.{window_at};
 ghost use Rattle.model.specs.Runs.{logged};
 ghost use Rattle.stage.specs.Lanes.{SameMemory};
-ghost use Rattle.stage.specs.View.{lane, lanes, marks_of, open_trials, world};
+ghost use Rattle.stage.specs.View.{lane, lanes, marks_of, open_trials, table_of, world};
 
-use crate::state::{Journal, Stage};
+use crate::state::{Journal, Stage, Table};
 use cdf::{Entry, Tables};
 use journal::{Log, Window};
 use record::Sink;
@@ -52,57 +50,54 @@ pub(super) fn put_entry<S: Sink>(sink: &mut S, entry: Entry)
 }
 
 impl Journal {
-    // Logs the window of the table of `n` symbols at word `first`, while a trial is open.
-    fn log_table(&mut self, log: &mut Log<'_>, tables: &Tables, first: usize, n: usize)
-        requires table { in_layout (table first n) ≡ true }
-        requires small { 0 < open_trials self.old → n ≤ 4 → self.old.used.small < length log.old.small.now }
-        requires large { 0 < open_trials self.old → 4 < n → self.old.used.large < length log.old.large.now }
-        ensures small { lane log.new.small.now self.new.used.small ≡ log_if (marks_of self.old) (lane log.old.small.now self.old.used.small) (small_log (whole (table first n)) tables.now.words) }
-        ensures large { lane log.new.large.now self.new.used.large ≡ log_if (marks_of self.old) (lane log.old.large.now self.old.used.large) (large_log (whole (table first n)) tables.now.words) }
+    // Logs a table's window, while a trial is open.
+    fn log_table(&mut self, log: &mut Log<'_>, tables: &Tables, table: Table)
+        requires small { 0 < open_trials self.old → table.n ≤ 4 → self.old.used.small < length log.old.small.now }
+        requires large { 0 < open_trials self.old → 4 < table.n → self.old.used.large < length log.old.large.now }
+        ensures small { lane log.new.small.now self.new.used.small ≡ log_if (marks_of self.old) (lane log.old.small.now self.old.used.small) (small_log (whole (table_of table)) tables.now.words) }
+        ensures large { lane log.new.large.now self.new.used.large ≡ log_if (marks_of self.old) (lane log.old.large.now self.old.used.large) (large_log (whole (table_of table)) tables.now.words) }
         ensures spots { (log.new.spots.now ≡ log.old.spots.now) × (self.new.used.spots ≡ self.old.used.spots) }
-        ensures few { n ≤ 4 → (self.new.used.small ≤ self.old.used.small + 1) × (self.new.used.large ≡ self.old.used.large) }
-        ensures many { 4 < n → (self.new.used.large ≤ self.old.used.large + 1) × (self.new.used.small ≡ self.old.used.small) }
+        ensures few { table.n ≤ 4 → (self.new.used.small ≤ self.old.used.small + 1) × (self.new.used.large ≡ self.old.used.large) }
+        ensures many { 4 < table.n → (self.new.used.large ≤ self.old.used.large + 1) × (self.new.used.small ≡ self.old.used.small) }
         ensures marks { self.new.marks ≡ self.old.marks }
         ensures memory { SameMemory log.new log.old }
     {
         if self.marks.is_empty() {
             return;
         }
-        if n <= 4 {
-            log_record(log.small, &mut self.used.small, window_of(tables.words(), first));
+        if table.n <= 4 {
+            log_record(log.small, &mut self.used.small, window_of(tables.words(), table.first));
         } else {
-            log_record(log.large, &mut self.used.large, window_of(tables.words(), first));
+            log_record(log.large, &mut self.used.large, window_of(tables.words(), table.first));
         }
     }
 }
 
 impl Stage {
-    // Codes symbol `s` by the table of `n` symbols at word `first`: its entry goes to the sink, and the table adapts.
+    // Codes symbol `s` by a table: its entry goes to the sink, and the table adapts.
     pub(super) fn symbol<S: Sink>(
         &mut self,
         sink: &mut S,
         log: &mut Log<'_>,
-        first: usize,
-        n: usize,
+        table: Table,
         s: usize,
     )
-        requires table { in_layout (table first n) ≡ true }
-        requires symbol { s < n }
+        requires symbol { s < table.n }
         requires room { 0 < S.Sink.rooms sink.old (S.Sink.list sink.old) }
-        requires small { 0 < open_trials self.old.journal → n ≤ 4 → self.old.journal.used.small < length log.old.small.now }
-        requires large { 0 < open_trials self.old.journal → 4 < n → self.old.journal.used.large < length log.old.large.now }
-        ensures step { (memory : List Cell) → world self.new memory (lanes log.new) (S.Sink.list sink.new) ≡ symbol_step (whole (table first n)) s (world self.old memory (lanes log.old) (S.Sink.list sink.old)) }
+        requires small { 0 < open_trials self.old.journal → table.n ≤ 4 → self.old.journal.used.small < length log.old.small.now }
+        requires large { 0 < open_trials self.old.journal → 4 < table.n → self.old.journal.used.large < length log.old.large.now }
+        ensures step { (memory : List Cell) → world self.new memory (lanes log.new) (S.Sink.list sink.new) ≡ symbol_step (whole (table_of table)) s (world self.old memory (lanes log.old) (S.Sink.list sink.old)) }
         ensures rooms { S.Sink.rooms sink.new ≡ S.Sink.rooms sink.old }
         ensures left { S.Sink.rooms sink.old (S.Sink.list sink.old) ≤ S.Sink.rooms sink.new (S.Sink.list sink.new) + 1 }
-        ensures few { n ≤ 4 → (self.new.journal.used.small ≤ self.old.journal.used.small + 1) × (self.new.journal.used.large ≡ self.old.journal.used.large) }
-        ensures many { 4 < n → (self.new.journal.used.large ≤ self.old.journal.used.large + 1) × (self.new.journal.used.small ≡ self.old.journal.used.small) }
+        ensures few { table.n ≤ 4 → (self.new.journal.used.small ≤ self.old.journal.used.small + 1) × (self.new.journal.used.large ≡ self.old.journal.used.large) }
+        ensures many { 4 < table.n → (self.new.journal.used.large ≤ self.old.journal.used.large + 1) × (self.new.journal.used.small ≡ self.old.journal.used.small) }
         ensures memory { SameMemory log.new log.old }
         ensures tile { self.new.tile ≡ self.old.tile }
         ensures trials { open_trials self.new.journal ≡ open_trials self.old.journal }
         ensures spots { self.new.journal.used.spots ≡ self.old.journal.used.spots }
     {
-        self.journal.log_table(log, &self.tables, first, n);
-        let Some(entry) = self.tables.symbol_with_update(first, n, s) else {
+        self.journal.log_table(log, &self.tables, table);
+        let Some(entry) = self.tables.symbol_with_update(table.first, table.n, s) else {
             unreachable()
         };
         put_entry(sink, entry);

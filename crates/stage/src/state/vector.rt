@@ -8,10 +8,10 @@ ghost use Rattle.model.specs.declared.Question.TheVariants as question;
 ghost use Rattle.model.specs.Vector.{bits_tree, bits_of, integer_tree, integer_path, fraction_tree, fraction_path, high_tree, high_path, class_width, Fits, step_of, present, component_if, path_if};
 ghost use Rattle.stage.specs.Coding.{moment, RoomFor, Coded};
 ghost use Rattle.stage.specs.Lanes.{SameMemory};
-ghost use Rattle.stage.specs.View.{world, lanes};
+ghost use Rattle.stage.specs.View.{world, lanes, table_of};
 ghost use Rattle.stage.specs.Vectors.{Component, integer_count, fraction_count, high_count, fraction_first, high_first, offset_count, offset_tree, offset_path, component_count};
 
-use crate::state::Stage;
+use crate::state::{Stage, Table};
 use av1::mv::{get_mv_class, split_component};
 use av1::{MvSubpelPrecision, Refusal};
 use journal::{Counts, Log};
@@ -63,24 +63,48 @@ fn mv_step(precision: MvSubpelPrecision) -> u32
     }
 }
 
-// Where the table of the fraction begins, and that of the high bit.
-fn fraction_table(base: usize, class: usize, d: u32) -> usize
-    requires base { Component base }
-    requires low { class ≡ 0 → d < 2 }
-    ensures { result ≡ fraction_first base class d }
-{
-    if class == 0 {
-        base + 28 + 4 * d as usize
-    } else {
-        base + 36
-    }
+// The tables of a component, which begin at word `base`.
+#[derive(Clone, Copy)]
+struct NMVComponent {
+    base: usize,
+    ghost one: { Component base },
 }
 
-fn high_table(base: usize, class: usize) -> usize
-    requires base { Component base }
-    ensures { result ≡ high_first base class }
-{
-    if class == 0 { base + 2 } else { base + 4 }
+impl NMVComponent {
+    // The table of the integer part in class 0.
+    fn class0(self) -> Table
+        ensures { table_of result ≡ table (self.base + 6) 2 }
+    {
+        Table {
+            first: self.base + 6,
+            n: 2,
+        }
+    }
+
+    // The table of the fraction.
+    fn fraction(self, class: usize, d: u32) -> Table
+        requires { class ≡ 0 → d < 2 }
+        ensures { table_of result ≡ table (fraction_first self.base class d) 4 }
+    {
+        let first = if class == 0 {
+            self.base + 28 + 4 * d as usize
+        } else {
+            self.base + 36
+        };
+        Table { first, n: 4 }
+    }
+
+    // The table of the high bit.
+    fn high(self, class: usize) -> Table
+        ensures { table_of result ≡ table (high_first self.base class) 2 }
+    {
+        let first = if class == 0 {
+            self.base + 2
+        } else {
+            self.base + 4
+        };
+        Table { first, n: 2 }
+    }
 }
 
 impl Stage {
@@ -99,7 +123,8 @@ impl Stage {
         ensures { Coded (bits_tree first n) (bits_of n bits) n 0 (moment self.old log.old (S.Sink.rooms sink.old) (S.Sink.list sink.old)) (moment self.new log.new (S.Sink.rooms sink.new) (S.Sink.list sink.new)) }
     {
         for i in 0..n {
-            self.symbol(sink, log, first + 2 * i, 2, ((bits >> i) % 2) as usize);
+            let bit = (bits >> i) % 2;
+            self.symbol(sink, log, Table { first: first + 2 * i, n: 2 }, bit as usize);
         }
     }
 
@@ -108,20 +133,19 @@ impl Stage {
         &mut self,
         sink: &mut S,
         log: &mut Log<'_>,
-        base: usize,
+        tables: NMVComponent,
         class: usize,
         d: u32,
     )
-        requires base { Component base }
         requires class { class < 11 }
         requires low { class ≡ 0 → d < 2 }
         requires room { RoomFor (integer_count class) 0 (moment self.old log.old (S.Sink.rooms sink.old) (S.Sink.list sink.old)) }
-        ensures { Coded (integer_tree base class) (integer_path class d) (integer_count class) 0 (moment self.old log.old (S.Sink.rooms sink.old) (S.Sink.list sink.old)) (moment self.new log.new (S.Sink.rooms sink.new) (S.Sink.list sink.new)) }
+        ensures { Coded (integer_tree tables.base class) (integer_path class d) (integer_count class) 0 (moment self.old log.old (S.Sink.rooms sink.old) (S.Sink.list sink.old)) (moment self.new log.new (S.Sink.rooms sink.new) (S.Sink.list sink.new)) }
     {
         if class == 0 {
-            self.symbol(sink, log, base + 6, 2, d as usize);
+            self.symbol(sink, log, tables.class0(), d as usize);
         } else {
-            self.code_bits(sink, log, base + 8, class, d);
+            self.code_bits(sink, log, tables.base + 8, class, d);
         }
     }
 
@@ -130,22 +154,21 @@ impl Stage {
         &mut self,
         sink: &mut S,
         log: &mut Log<'_>,
-        base: usize,
+        tables: NMVComponent,
         precision: MvSubpelPrecision,
         class: usize,
         d: u32,
         fr: u32,
     )
-        requires base { Component base }
         requires low { class ≡ 0 → d < 2 }
         requires symbol { fr < 4 }
         requires room { RoomFor (fraction_count precision) 0 (moment self.old log.old (S.Sink.rooms sink.old) (S.Sink.list sink.old)) }
-        ensures { Coded (fraction_tree base precision class d) (fraction_path precision fr) (fraction_count precision) 0 (moment self.old log.old (S.Sink.rooms sink.old) (S.Sink.list sink.old)) (moment self.new log.new (S.Sink.rooms sink.new) (S.Sink.list sink.new)) }
+        ensures { Coded (fraction_tree tables.base precision class d) (fraction_path precision fr) (fraction_count precision) 0 (moment self.old log.old (S.Sink.rooms sink.old) (S.Sink.list sink.old)) (moment self.new log.new (S.Sink.rooms sink.new) (S.Sink.list sink.new)) }
     {
         if fraction_symbols(precision) == 0 {
             return;
         }
-        self.symbol(sink, log, fraction_table(base, class, d), 4, fr as usize);
+        self.symbol(sink, log, tables.fraction(class, d), fr as usize);
     }
 
     // Codes the high bit, if the precision has one.
@@ -153,20 +176,19 @@ impl Stage {
         &mut self,
         sink: &mut S,
         log: &mut Log<'_>,
-        base: usize,
+        tables: NMVComponent,
         precision: MvSubpelPrecision,
         class: usize,
         hp: u32,
     )
-        requires base { Component base }
         requires symbol { hp < 2 }
         requires room { RoomFor (high_count precision) 0 (moment self.old log.old (S.Sink.rooms sink.old) (S.Sink.list sink.old)) }
-        ensures { Coded (high_tree base precision class) (high_path precision hp) (high_count precision) 0 (moment self.old log.old (S.Sink.rooms sink.old) (S.Sink.list sink.old)) (moment self.new log.new (S.Sink.rooms sink.new) (S.Sink.list sink.new)) }
+        ensures { Coded (high_tree tables.base precision class) (high_path precision hp) (high_count precision) 0 (moment self.old log.old (S.Sink.rooms sink.old) (S.Sink.list sink.old)) (moment self.new log.new (S.Sink.rooms sink.new) (S.Sink.list sink.new)) }
     {
         if high_symbols(precision) == 0 {
             return;
         }
-        self.symbol(sink, log, high_table(base, class), 2, hp as usize);
+        self.symbol(sink, log, tables.high(class), hp as usize);
     }
 
     // Codes an offset in its class: the integer part, the fraction and the high bit.
@@ -174,41 +196,39 @@ impl Stage {
         &mut self,
         sink: &mut S,
         log: &mut Log<'_>,
-        base: usize,
+        tables: NMVComponent,
         precision: MvSubpelPrecision,
         class: usize,
         offset: u32,
     )
-        requires base { Component base }
         requires class { class < 11 }
         requires offset { offset < class_width class }
         requires fine { Fits precision offset }
         requires room { RoomFor (offset_count precision class) 0 (moment self.old log.old (S.Sink.rooms sink.old) (S.Sink.list sink.old)) }
-        ensures { (sign : ℕ) → Coded (offset_tree base precision sign class) (offset_path precision class offset) (offset_count precision class) 0 (moment self.old log.old (S.Sink.rooms sink.old) (S.Sink.list sink.old)) (moment self.new log.new (S.Sink.rooms sink.new) (S.Sink.list sink.new)) }
+        ensures { (sign : ℕ) → Coded (offset_tree tables.base precision sign class) (offset_path precision class offset) (offset_count precision class) 0 (moment self.old log.old (S.Sink.rooms sink.old) (S.Sink.list sink.old)) (moment self.new log.new (S.Sink.rooms sink.new) (S.Sink.list sink.new)) }
     {
         let d = offset >> 3;
         let fr = (offset >> 1) % 4;
         let hp = offset % 2;
-        self.code_integer(sink, log, base, class, d);
-        self.code_fraction(sink, log, base, precision, class, d, fr);
-        self.code_high(sink, log, base, precision, class, hp);
+        self.code_integer(sink, log, tables, class, d);
+        self.code_fraction(sink, log, tables, precision, class, d, fr);
+        self.code_high(sink, log, tables, precision, class, hp);
     }
 
-    // Codes a component by the tables at word `base`: its sign, the class of its magnitude less one, and the offset
+    // Codes a component by its tables: its sign, the class of its magnitude less one, and the offset
     // there. One that is zero has no symbols.
     fn encode_mv_component<S: Sink>(
         &mut self,
         sink: &mut S,
         log: &mut Log<'_>,
-        base: usize,
+        tables: NMVComponent,
         comp: i32,
         precision: MvSubpelPrecision,
     )
-        requires base { Component base }
         requires range { magnitude comp ≤ 16384 }
         requires fine { magnitude comp % step_of precision ≡ 0 }
         requires room { RoomFor (component_count precision (magnitude comp)) (nonzero comp) (moment self.old log.old (S.Sink.rooms sink.old) (S.Sink.list sink.old)) }
-        ensures { Coded (component_if (present comp) base precision) (path_if precision comp) (component_count precision (magnitude comp)) (nonzero comp) (moment self.old log.old (S.Sink.rooms sink.old) (S.Sink.list sink.old)) (moment self.new log.new (S.Sink.rooms sink.new) (S.Sink.list sink.new)) }
+        ensures { Coded (component_if (present comp) tables.base precision) (path_if precision comp) (component_count precision (magnitude comp)) (nonzero comp) (moment self.old log.old (S.Sink.rooms sink.old) (S.Sink.list sink.old)) (moment self.new log.new (S.Sink.rooms sink.new) (S.Sink.list sink.new)) }
     {
         let Some((sign, mag)) = split_component(comp) else {
             unreachable()
@@ -217,9 +237,9 @@ impl Stage {
             return;
         }
         let (class, offset) = get_mv_class(mag - 1);
-        self.symbol(sink, log, base, 2, sign as usize);
-        self.symbol(sink, log, base + 40, 11, class);
-        self.code_offset(sink, log, base, precision, class, offset);
+        self.symbol(sink, log, Table { first: tables.base, n: 2 }, sign as usize);
+        self.symbol(sink, log, Table { first: tables.base + 40, n: 11 }, class);
+        self.code_offset(sink, log, tables, precision, class, offset);
     }
 
     /// Codes a vector by its difference from the predicted one: its joint, then the row and the column where they are
@@ -262,9 +282,9 @@ impl Stage {
                 spots: 0,
             },
         )?;
-        self.symbol(sink, log, 302, 4, 2 * rows + cols);
-        self.encode_mv_component(sink, log, 318, row, precision);
-        self.encode_mv_component(sink, log, 374, col, precision);
+        self.symbol(sink, log, Table { first: 302, n: 4 }, 2 * rows + cols);
+        self.encode_mv_component(sink, log, NMVComponent { base: 318 }, row, precision);
+        self.encode_mv_component(sink, log, NMVComponent { base: 374 }, col, precision);
         Ok(small + large)
     }
 }

@@ -9,6 +9,12 @@ loop-i-init g c =
     let k = g.S.Sink in
     (omega arith, coded_none 0 [] (moment c.args.self.now c.args.log.now (k.rooms c.args.sink.now) (k.list c.args.sink.now)))
 
+pub invariant_of-symbol : goal.invariant_of-symbol
+invariant_of-symbol g c =
+    let i : ℕ = c.loop-i.i in
+    let below : i < c.args.n = search rules in
+    record { there = c.requires.tables i below }
+
 pub symbol-requires : goal.symbol-requires
 symbol-requires g c =
     let k = g.S.Sink in
@@ -19,7 +25,6 @@ symbol-requires g c =
     let room : RoomFor 1 0 here =
     room_left (bits_tree c.args.first i) (bits_of i c.args.bits) i 0 1 0 c.args.n 0 from here c.loop-i.invariant.1 (omega arith) (omega arith) c.requires.room in
     record {
-      table = c.requires.tables i below;
       symbol = omega arith;
       room = omega (arith, room.entries);
       small = λ some few. omega (arith, room.small some);

@@ -1,6 +1,6 @@
-use Rattle.std.proofs.Common.{◌≡◌, true, sym, subst, arith, rules}
+use Rattle.std.proofs.Common.{ap, ◌≡◌, true, sym, subst, arith, rules}
 use Rattle.cdf.specs.Layout.{in_layout}
-use Rattle.cdf.specs.Words.{table}
+use Rattle.cdf.specs.Words.{Table}
 use Rattle.stage.specs.Coding.{moment, RoomFor}
 use Rattle.stage.specs.Vectors.{fraction_count}
 use Rattle.stage.proofs.Vectors.{fraction_in_layout, fraction_room}
@@ -8,13 +8,13 @@ use Rattle.stage.proofs.state.Stage.code_fraction.Goals as goal
 
 pub symbol-requires : goal.symbol-requires
 symbol-requires g c =
+    let count : c.fraction.result.n ≡ 4 = ap (λ (t : Table). t.count) c.fraction.ensures in
     let k = g.S.Sink in
     let present : fraction_count c.args.precision ≡ 0 → ⊥ = search rules in
     let room : RoomFor 1 0 (moment c.args.self.now c.args.log.now (k.rooms c.args.sink.now) (k.list c.args.sink.now)) = fraction_room c.args.precision _ present c.requires.room in
     record {
-      table = subst (λ f. in_layout (table f 4) ≡ true) (sym c.fraction_table.ensures) (fraction_in_layout c.args.base c.args.class c.args.d c.requires.base c.requires.low);
-      symbol = c.requires.symbol;
+      symbol = omega (arith, count, c.requires.symbol);
       room = omega (arith, room.entries);
       small = λ some few. omega (arith, room.small some);
-      large = λ some many. absurd (omega arith);
+      large = λ some many. absurd (omega (arith, count));
     }

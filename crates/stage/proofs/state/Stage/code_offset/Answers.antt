@@ -11,7 +11,6 @@ code_integer-requires g c =
     let k = g.S.Sink in
     let m : Moment = moment c.args.self.now c.args.log.now (k.rooms c.args.sink.now) (k.list c.args.sink.now) in
     record {
-      base = c.requires.base;
       class = c.requires.class;
       low = low_offset c.args.class c.args.offset c.requires.offset;
       room = room_within (integer_count c.args.class) 0 (offset_count c.args.precision c.args.class) 0 m (omega arith) (omega arith) c.requires.room;
@@ -24,18 +23,17 @@ code_fraction-requires g c =
     let m : Moment = moment c.args.self.now c.args.log.now (k.rooms c.args.sink.now) (k.list c.args.sink.now) in
     let n : Moment = moment c.code_integer.new.self c.code_integer.new.log (k.rooms c.code_integer.new.sink) (k.list c.code_integer.new.sink) in
     record {
-      base = c.requires.base;
       low = low_offset c.args.class o c.requires.offset;
       symbol = omega arith;
       room =
-          room_left (integer_tree c.args.base c.args.class) (integer_path c.args.class (o / 8)) (integer_count c.args.class) 0 (fraction_count c.args.precision) 0
+          room_left (integer_tree c.args.tables.base c.args.class) (integer_path c.args.class (o / 8)) (integer_count c.args.class) 0 (fraction_count c.args.precision) 0
           (offset_count c.args.precision c.args.class) 0 m n c.code_integer.ensures (omega arith) (omega arith) c.requires.room;
     }
 
 pub code_high-requires : goal.code_high-requires
 code_high-requires g c =
     let k = g.S.Sink in
-    let b : ℕ = c.args.base in
+    let b : ℕ = c.args.tables.base in
     let o : ℕ = c.args.offset in
     let p = c.args.precision in
     let m : Moment = moment c.args.self.now c.args.log.now (k.rooms c.args.sink.now) (k.list c.args.sink.now) in
@@ -45,7 +43,6 @@ code_high-requires g c =
     room_left (integer_tree b c.args.class) (integer_path c.args.class (o / 8)) (integer_count c.args.class) 0 (fraction_count p + high_count p) 0
     (offset_count p c.args.class) 0 m n c.code_integer.ensures (omega arith) (omega arith) c.requires.room in
     record {
-      base = c.requires.base;
       symbol = omega arith;
       room =
           room_left (fraction_tree b p c.args.class (o / 8)) (fraction_path p ((o / 2) % 4)) (fraction_count p) 0 (high_count p) 0
@@ -55,7 +52,7 @@ code_high-requires g c =
 pub returns : goal.returns
 returns g c sign =
     let k = g.S.Sink in
-    offset_coded c.args.base c.args.precision sign c.args.class c.args.offset c.requires.offset c.requires.fine
+    offset_coded c.args.tables.base c.args.precision sign c.args.class c.args.offset c.requires.offset c.requires.fine
     (moment c.args.self.now c.args.log.now (k.rooms c.args.sink.now) (k.list c.args.sink.now))
     (moment c.code_integer.new.self c.code_integer.new.log (k.rooms c.code_integer.new.sink) (k.list c.code_integer.new.sink))
     (moment c.code_fraction.new.self c.code_fraction.new.log (k.rooms c.code_fraction.new.sink) (k.list c.code_fraction.new.sink))

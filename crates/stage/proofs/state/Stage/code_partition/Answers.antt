@@ -13,7 +13,7 @@ returns-in-false-true g c =
     let below : c.args.rows ≡ false = search rules in
     let beside : c.args.cols ≡ true = search rules in
     record {
-      step = λ memory. c.edge_symbol-in-false-true.ensures.step memory l ∙ ap (λ v. symbol_step (edge (table c.args.first c.args.n) (2 ∷ 3 ∷ 4 ∷ 6 ∷ 7 ∷ 9 ∷ [])) v (world c.args.self.now memory l (g.S.Sink.list c.args.sink.now))) c.symbol_at_edge-in-false-true.ensures.value ∙ bottom_coded c.args.rows c.args.cols (table c.args.first c.args.n) (number c.args.p) (world c.args.self.now memory l (g.S.Sink.list c.args.sink.now)) below beside;
+      step = λ memory. c.edge_symbol-in-false-true.ensures.step memory l ∙ ap (λ v. symbol_step (edge (table c.args.table.first c.args.table.n) (2 ∷ 3 ∷ 4 ∷ 6 ∷ 7 ∷ 9 ∷ [])) v (world c.args.self.now memory l (g.S.Sink.list c.args.sink.now))) c.symbol_at_edge-in-false-true.ensures.value ∙ bottom_coded c.args.rows c.args.cols (table c.args.table.first c.args.table.n) (number c.args.p) (world c.args.self.now memory l (g.S.Sink.list c.args.sink.now)) below beside;
       rooms = c.edge_symbol-in-false-true.ensures.rooms;
       memory = search rules;
     }
@@ -24,7 +24,7 @@ returns-in-true-false g c =
     let below : c.args.rows ≡ true = search rules in
     let beside : c.args.cols ≡ false = search rules in
     record {
-      step = λ memory. c.edge_symbol.ensures.step memory l ∙ ap (λ v. symbol_step (edge (table c.args.first c.args.n) (1 ∷ 3 ∷ 4 ∷ 5 ∷ 6 ∷ 8 ∷ [])) v (world c.args.self.now memory l (g.S.Sink.list c.args.sink.now))) c.symbol_at_edge.ensures.value ∙ right_coded c.args.rows c.args.cols (table c.args.first c.args.n) (number c.args.p) (world c.args.self.now memory l (g.S.Sink.list c.args.sink.now)) below beside;
+      step = λ memory. c.edge_symbol.ensures.step memory l ∙ ap (λ v. symbol_step (edge (table c.args.table.first c.args.table.n) (1 ∷ 3 ∷ 4 ∷ 5 ∷ 6 ∷ 8 ∷ [])) v (world c.args.self.now memory l (g.S.Sink.list c.args.sink.now))) c.symbol_at_edge.ensures.value ∙ right_coded c.args.rows c.args.cols (table c.args.table.first c.args.table.n) (number c.args.p) (world c.args.self.now memory l (g.S.Sink.list c.args.sink.now)) below beside;
       rooms = c.edge_symbol.ensures.rooms;
       memory = search rules;
     }

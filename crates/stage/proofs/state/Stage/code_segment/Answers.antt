@@ -4,13 +4,15 @@ use Rattle.stage.specs.View.{lanes, world}
 use Rattle.stage.proofs.Segments.{segment_symbol, segment_coded, decided_unskipped}
 use Rattle.stage.proofs.state.Stage.code_segment.Goals as goal
 
+pub invariant_of-symbol : goal.invariant_of-symbol
+invariant_of-symbol g c = record { there = segment_in_layout c.args.number (omega (arith, c.requires.number)) }
+
 pub symbol-requires : goal.symbol-requires
 symbol-requires g c =
     let last : ℕ = c.args.self.now.last in
     let most : last ≤ 7 = c.args.self.now.ends in
     let s = segment_symbol c.in-Some.segment c.args.prediction last c.in-Some-neg_interleave.s (search rules) c.requires.prediction c.in-Some-neg_interleave.ensures in
     record {
-      table = segment_in_layout c.args.number (omega (arith, c.requires.number));
       symbol = omega (arith, s.1, most);
       room = search rules;
       small = λ some few. absurd (omega arith);

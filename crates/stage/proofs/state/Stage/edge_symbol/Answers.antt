@@ -12,10 +12,10 @@ returns g c =
     let k = g.S.Sink in
     let s = c.args.self.now in
     let w : Words = s.tables.words in
-    let t = table c.args.first c.args.n in
+    let t = table c.args.table.first c.args.table.n in
     let es : List Entry = k.list c.args.sink.now in
     let e : Entry = c.in-Some.entry in
-    let same : e ≡ entry_of w (edge t (edge_symbols c.args.edge)) c.args.s = edge_entry w t c.args.edge c.args.s e c.requires.table c.requires.symbol c.in-Some.ensures.entry in
+    let same : e ≡ entry_of w (edge t (edge_symbols c.args.edge)) c.args.s = edge_entry w t c.args.edge c.args.s e c.args.table.there c.requires.symbol c.in-Some.ensures.entry in
     let list : k.list c.put_entry.new.sink ≡ es ++ entry_of w (edge t (edge_symbols c.args.edge)) c.args.s ∷ [] =
     c.put_entry.ensures.list ∙ ap (λ x. es ++ x ∷ []) same in
     record {

@@ -6,6 +6,12 @@ use Rattle.stage.proofs.Coding.{coded_small, coded_large, room_left}
 use Rattle.stage.proofs.Vectors.{sign_in_layout, classes_in_layout, SplitAs, Parts, parts, component_room, component_coded}
 use Rattle.stage.proofs.state.Stage.encode_mv_component.Goals as goal
 
+pub invariant_of-symbol : goal.invariant_of-symbol
+invariant_of-symbol g c = record { there = sign_in_layout c.args.tables.base c.args.tables.one }
+
+pub invariant_of-symbol-2 : goal.invariant_of-symbol-2
+invariant_of-symbol-2 g c = record { there = classes_in_layout c.args.tables.base c.args.tables.one }
+
 pub symbol-requires : goal.symbol-requires
 symbol-requires g c =
     let k = g.S.Sink in
@@ -20,7 +26,6 @@ symbol-requires g c =
     let room : RoomFor (1 + offset_count c.args.precision class) 1 m =
     component_room c.args.precision c.args.comp c.in-Some.sign class offset m is c.requires.room in
     record {
-      table = sign_in_layout c.args.base c.requires.base;
       symbol = c.in-Some.ensures.within.0;
       room = omega (arith, room.entries);
       small = λ some few. omega (arith, room.small some);
@@ -40,13 +45,12 @@ symbol-requires-2 g c =
     let m : Moment = moment c.args.self.now c.args.log.now (k.rooms c.args.sink.now) (k.list c.args.sink.now) in
     let n : Moment = moment c.symbol.new.self c.symbol.new.log (k.rooms c.symbol.new.sink) (k.list c.symbol.new.sink) in
     let e = c.symbol.ensures in
-    let coded : Coded (one c.args.base 2) (c.in-Some.sign ∷ []) 1 0 m n =
-    coded_small c.args.base 2 c.in-Some.sign m n (omega arith) e.step e.rooms e.left e.few e.memory e.trials in
+    let coded : Coded (one c.args.tables.base 2) (c.in-Some.sign ∷ []) 1 0 m n =
+    coded_small c.args.tables.base 2 c.in-Some.sign m n (omega arith) e.step e.rooms e.left e.few e.memory e.trials in
     let room : RoomFor (offset_count c.args.precision class) 1 n =
-    room_left (one c.args.base 2) (c.in-Some.sign ∷ []) 1 0 (offset_count c.args.precision class) 1 (1 + offset_count c.args.precision class) 1 m n coded (omega arith) (omega arith)
+    room_left (one c.args.tables.base 2) (c.in-Some.sign ∷ []) 1 0 (offset_count c.args.precision class) 1 (1 + offset_count c.args.precision class) 1 m n coded (omega arith) (omega arith)
     (component_room c.args.precision c.args.comp c.in-Some.sign class offset m is c.requires.room) in
     record {
-      table = classes_in_layout c.args.base c.requires.base;
       symbol = is.most;
       room = omega (arith, room.entries);
       small = λ some few. absurd (omega arith);
@@ -68,20 +72,19 @@ code_offset-requires g c =
     let l : Moment = moment c.symbol-2.new.self c.symbol-2.new.log (k.rooms c.symbol-2.new.sink) (k.list c.symbol-2.new.sink) in
     let e = c.symbol.ensures in
     let f = c.symbol-2.ensures in
-    let coded : Coded (one c.args.base 2) (c.in-Some.sign ∷ []) 1 0 m n =
-    coded_small c.args.base 2 c.in-Some.sign m n (omega arith) e.step e.rooms e.left e.few e.memory e.trials in
-    let named : Coded (one (c.args.base + 40) 11) (class ∷ []) 0 1 n l =
-    coded_large (c.args.base + 40) 11 class n l (omega arith) f.step f.rooms f.left f.many f.memory f.trials in
+    let coded : Coded (one c.args.tables.base 2) (c.in-Some.sign ∷ []) 1 0 m n =
+    coded_small c.args.tables.base 2 c.in-Some.sign m n (omega arith) e.step e.rooms e.left e.few e.memory e.trials in
+    let named : Coded (one (c.args.tables.base + 40) 11) (class ∷ []) 0 1 n l =
+    coded_large (c.args.tables.base + 40) 11 class n l (omega arith) f.step f.rooms f.left f.many f.memory f.trials in
     let room : RoomFor (offset_count c.args.precision class) 1 n =
-    room_left (one c.args.base 2) (c.in-Some.sign ∷ []) 1 0 (offset_count c.args.precision class) 1 (1 + offset_count c.args.precision class) 1 m n coded (omega arith) (omega arith)
+    room_left (one c.args.tables.base 2) (c.in-Some.sign ∷ []) 1 0 (offset_count c.args.precision class) 1 (1 + offset_count c.args.precision class) 1 m n coded (omega arith) (omega arith)
     (component_room c.args.precision c.args.comp c.in-Some.sign class offset m is c.requires.room) in
     record {
-      base = c.requires.base;
       class = is.most;
       offset = is.within;
       fine = is.fine;
       room =
-          room_left (one (c.args.base + 40) 11) (class ∷ []) 0 1 (offset_count c.args.precision class) 0 (offset_count c.args.precision class) 1 n l named (omega arith) (omega arith) room;
+          room_left (one (c.args.tables.base + 40) 11) (class ∷ []) 0 1 (offset_count c.args.precision class) 0 (offset_count c.args.precision class) 1 n l named (omega arith) (omega arith) room;
     }
 
 pub returns : goal.returns
@@ -100,7 +103,7 @@ returns g c =
     let o : Moment = moment c.code_offset.new.self c.code_offset.new.log (k.rooms c.code_offset.new.sink) (k.list c.code_offset.new.sink) in
     let e = c.symbol.ensures in
     let f = c.symbol-2.ensures in
-    component_coded c.args.base c.args.precision c.args.comp c.in-Some.sign class offset m n l o is c.in-Some.ensures.within.0
-    (coded_small c.args.base 2 c.in-Some.sign m n (omega arith) e.step e.rooms e.left e.few e.memory e.trials)
-    (coded_large (c.args.base + 40) 11 class n l (omega arith) f.step f.rooms f.left f.many f.memory f.trials)
+    component_coded c.args.tables.base c.args.precision c.args.comp c.in-Some.sign class offset m n l o is c.in-Some.ensures.within.0
+    (coded_small c.args.tables.base 2 c.in-Some.sign m n (omega arith) e.step e.rooms e.left e.few e.memory e.trials)
+    (coded_large (c.args.tables.base + 40) 11 class n l (omega arith) f.step f.rooms f.left f.many f.memory f.trials)
     (c.code_offset.ensures c.in-Some.sign)

@@ -39,11 +39,13 @@ returns-in_err-ask_record g c =
       memory = search rules;
     })
 
+pub invariant_of-symbol : goal.invariant_of-symbol
+invariant_of-symbol g c = record { there = signs_in_layout }
+
 pub symbol-requires : goal.symbol-requires
 symbol-requires g c =
     let fit = c.in_ok-ask_record.ensures.lanes in
     record {
-      table = signs_in_layout;
       symbol = c.joint_sign.ensures.most;
       room = omega (arith, c.in_ok-ask_record.ensures.room, c.room.ensures);
       small = λ some few. absurd (omega arith);

@@ -95,6 +95,9 @@ returns-in_err-ask_record g c =
       memory = search rules;
     })
 
+pub invariant_of-symbol : goal.invariant_of-symbol
+invariant_of-symbol g c = record { there = joints_in_layout }
+
 pub symbol-requires : goal.symbol-requires
 symbol-requires g c =
     let k = g.S.Sink in
@@ -116,7 +119,6 @@ symbol-requires g c =
     room_asked p row col high wide c.component_symbols.result c.component_symbols-2.result c.room.result m is c.room.ensures
     c.in_ok-ask_record.ensures.room c.in_ok-ask_record.ensures.lanes in
     record {
-      table = joints_in_layout;
       symbol = search rules;
       room = omega (arith, room.entries);
       small = λ some few. omega (arith, room.small some);
@@ -149,7 +151,6 @@ encode_mv_component-requires g c =
     let coded : Coded (one 302 4) (j ∷ []) 1 0 m n = coded_small 302 4 j m n (omega arith) e.step e.rooms e.left e.few e.memory e.trials in
     let there : to_z w32 (of_z w32 row) ≡ row = to_z-of_z c.ranges.row in
     record {
-      base = inl refl;
       range = subst (λ d. magnitude d ≤ 16384) (sym there) is.row_fits.range;
       fine = subst (λ d. magnitude d % step_of p ≡ 0) (sym there) is.row_fits.fine;
       room =
@@ -189,7 +190,6 @@ encode_mv_component-requires-2 g c =
     let rest : RoomFor (component_count p (magnitude row) + component_count p (magnitude col)) (vector_large row col) n =
     room_left (one 302 4) (j ∷ []) 1 0 (component_count p (magnitude row) + component_count p (magnitude col)) (vector_large row col) (vector_small p row col) (vector_large row col) m n coded (omega arith) (omega arith) room in
     record {
-      base = inr refl;
       range = subst (λ d. magnitude d ≤ 16384) (sym back) is.col_fits.range;
       fine = subst (λ d. magnitude d % step_of p ≡ 0) (sym back) is.col_fits.fine;
       room =

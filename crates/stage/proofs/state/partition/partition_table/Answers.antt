@@ -6,9 +6,15 @@ use Rattle.stage.proofs.state.partition.partition_table.Goals as goal
 pub returns-then-level-eq0 : goal.returns-then-level-eq0
 returns-then-level-eq0 c =
     let none : c.args.level ≡ 0 = search rules in
-    record { value = split_table c.args.level c.args.ctx none; layout = split_in_layout c.args.ctx (omega (arith, c.requires.1)) }
+    split_table c.args.level c.args.ctx none
 
-pub returns-else-level-eq0 : goal.returns-else-level-eq0
-returns-else-level-eq0 c =
+pub returns : goal.returns
+returns c =
     let some : 0 < c.args.level = search rules in
-    record { value = larger_table c.args.level c.args.ctx some; layout = partition_in_layout (4 * (c.args.level - 1) + c.args.ctx) (omega (arith, c.requires.0, c.requires.1)) }
+    larger_table c.args.level c.args.ctx some
+
+pub invariant_of-result : goal.invariant_of-result
+invariant_of-result c = record { there = split_in_layout c.args.ctx (omega (arith, c.requires.1)) }
+
+pub invariant_of-result-2 : goal.invariant_of-result-2
+invariant_of-result-2 c = record { there = partition_in_layout (4 * (c.args.level - 1) + c.args.ctx) (omega (arith, c.requires.0, c.requires.1)) }

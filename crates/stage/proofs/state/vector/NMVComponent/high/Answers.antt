@@ -1,0 +1,11 @@
+use Rattle.std.proofs.Common.{◌≡◌, true, sym, subst, rules}
+use Rattle.cdf.specs.Layout.{in_layout}
+use Rattle.cdf.specs.Words.{table}
+use Rattle.stage.specs.Vectors.{high_first}
+use Rattle.stage.proofs.Vectors.{high_in_layout}
+use Rattle.stage.proofs.state.vector.NMVComponent.high.Goals as goal
+
+pub invariant_of-result : goal.invariant_of-result
+invariant_of-result c =
+    let from : c.if-class-eq0.first ≡ high_first c.args.self.base c.args.class = search rules in
+    record { there = subst (λ f. in_layout (table f 2) ≡ true) (sym from) (high_in_layout c.args.self.base c.args.class c.args.self.one) }
