@@ -48,9 +48,7 @@ impl Stage {
         ensures still { is_ok result ≡ false → (sink.new ≡ sink.old) × (self.new ≡ self.old) }
         ensures memory { SameMemory log.new log.old }
     {
-        let Some(cfl) = CFLParams::from_alpha(u, v) else {
-            return Err(Refusal::Alphas);
-        };
+        let cfl = CFLParams::from_alpha(u, v).ok_or(Refusal::Alphas)?;
         let entries = 1 + cfl.count_scales();
         self.journal.ask_record(
             log,

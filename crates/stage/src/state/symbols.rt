@@ -19,9 +19,7 @@ fn window_of<const W: usize>(words: &[u16; 430], first: usize) -> Window<W>
     ensures { result ≡ window_at W words.now first }
 {
     let mut copy = [0; W];
-    for i in 0..W {
-        copy[i] = words[first + i];
-    }
+    copy.copy_from_slice(&words[first..first + W]);
     Window {
         first: first as u16,
         words: copy,

@@ -258,12 +258,8 @@ impl Stage {
         ensures still { is_ok result ≡ false → (sink.new ≡ sink.old) × (self.new ≡ self.old) }
         ensures memory { SameMemory log.new log.old }
     {
-        let Some((_, high)) = split_component(row) else {
-            return Err(Refusal::VectorRange);
-        };
-        let Some((_, wide)) = split_component(col) else {
-            return Err(Refusal::VectorRange);
-        };
+        let (_, high) = split_component(row).ok_or(Refusal::VectorRange)?;
+        let (_, wide) = split_component(col).ok_or(Refusal::VectorRange)?;
         let step = mv_step(precision);
         if high % step != 0 || wide % step != 0 {
             return Err(Refusal::VectorPrecision);

@@ -1,6 +1,7 @@
 use Rattle.std.proofs.Common.{◌≡◌, ◌+◌, true, false, length, get_or, None, refl, ap, ◌∙◌, ap₂, arith, rules}
 use Rattle.std.proofs.lemmas.Result.{err_from_is_err_and}
 use Rattle.av1.specs.Alphas.{alphas_allowed, joint_sign, coded_alpha}
+use Rattle.av1.specs.declared.refusal.Refusal.TheVariants as no
 use Rattle.av1.specs.Vectors.{nonzero}
 use Rattle.model.proofs.TreeTables.{signs_in_layout}
 use Rattle.stage.specs.Alphas.{scale_count}
@@ -8,28 +9,25 @@ use Rattle.stage.specs.View.{lanes, state_of, world}
 use Rattle.stage.proofs.Alphas.{counted, refused_alphas, refused_record, accepted}
 use Rattle.stage.proofs.state.Stage.write_cfl_alphas.Goals as goal
 
-pub returns-in_default : goal.returns-in_default
-returns-in_default g c =
+pub returns-in_err-cfl-clause-step : goal.returns-in_err-cfl-clause-step
+returns-in_err-cfl-clause-step g c =
     let k = g.S.Sink in
     let s = c.args.self.now in
     let refused : alphas_allowed (c.args.u, c.args.v) ≡ false = search rules in
-    record {
-      step = λ memory.
-          refused_alphas (length memory) (k.rooms c.args.sink.now) (state_of s memory) s.journal (lanes c.args.log.now) (k.list c.args.sink.now) c.args.u c.args.v refused;
-      rooms = refl;
-      still = λ h. (refl, refl);
-      memory = search rules;
-    }
+    let p = err_from_is_err_and c.from_residual.result c.from_residual.ensures.1 in
+    let why : c.in_err-cfl.field-0.0 ≡ no.Alphas = search rules in
+    rw (p.1, p.2, why) (λ memory.
+    refused_alphas (length memory) (k.rooms c.args.sink.now) (state_of s memory) s.journal (lanes c.args.log.now) (k.list c.args.sink.now) c.args.u c.args.v refused)
 
 pub returns-in_err-ask_record : goal.returns-in_err-ask_record
 returns-in_err-ask_record g c =
     let k = g.S.Sink in
     let s = c.args.self.now in
-    let u : c.in-Some.cfl.u ≡ c.args.u = search rules in
-    let v : c.in-Some.cfl.v ≡ c.args.v = search rules in
+    let u : c.in_ok-cfl.cfl.u ≡ c.args.u = search rules in
+    let v : c.in_ok-cfl.cfl.v ≡ c.args.v = search rules in
     let allowed : alphas_allowed (c.args.u, c.args.v) ≡ true = search rules in
     let entries : c.count_scales-entries.result ≡ nonzero c.args.u + nonzero c.args.v = c.count_scales-entries.ensures.value ∙ ap₂ (λ a b. nonzero a + nonzero b) u v in
-    let p = err_from_is_err_and c.from_residual.result c.from_residual.ensures.1 in
+    let p = err_from_is_err_and c.from_residual-in_err-ask_record.result c.from_residual-in_err-ask_record.ensures.1 in
     rw (p.1, p.2) (record {
       step = λ memory.
           refused_record (length memory) (k.rooms c.args.sink.now) (state_of s memory) s.journal (lanes c.args.log.now) (k.list c.args.sink.now) c.args.u c.args.v
@@ -54,7 +52,7 @@ symbol-requires g c =
 
 pub code_scale-requires-2 : goal.code_scale-requires-2
 code_scale-requires-2 g c =
-    let cfl = c.in-Some.cfl in
+    let cfl = c.in_ok-cfl.cfl in
     let fit = c.in_ok-ask_record.ensures.lanes in
     let signs = c.symbol.ensures in
     let first = c.code_scale.ensures in
@@ -72,8 +70,8 @@ pub returns : goal.returns
 returns g c =
     let k = g.S.Sink in
     let s = c.args.self.now in
-    let u : c.in-Some.cfl.u ≡ c.args.u = search rules in
-    let v : c.in-Some.cfl.v ≡ c.args.v = search rules in
+    let u : c.in_ok-cfl.cfl.u ≡ c.args.u = search rules in
+    let v : c.in_ok-cfl.cfl.v ≡ c.args.v = search rules in
     let allowed : alphas_allowed (c.args.u, c.args.v) ≡ true = search rules in
     record {
       step = λ memory.

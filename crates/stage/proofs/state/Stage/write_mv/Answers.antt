@@ -1,6 +1,7 @@
 use Rattle.std.proofs.Common.{◌≡◌, ℕ, ◌+◌, ◌*◌, ◌%◌, ◌≤◌, not, eqb, [], ◌∷◌, length, ℤ, sym, refl, ◌∙◌, subst, ap₂, inl, inr, arith, to_z-of_z, w32, to_z, of_z, rules}
 use mir.Val.{bool_byte}
 use Rattle.std.proofs.lemmas.Result.{err_from_is_err_and}
+use Rattle.av1.specs.declared.refusal.Refusal.TheVariants as no
 use Rattle.av1.specs.Vectors.{magnitude, nonzero}
 use Rattle.model.specs.Tree.{one}
 use Rattle.model.specs.Vector.{component_if, path_if, present, step_of}
@@ -13,33 +14,27 @@ use Rattle.stage.proofs.Vectors.{SplitAs, split_as}
 use Rattle.stage.proofs.VectorCalls.{Taken, taken, vector_small, vector_large, room_asked, vector_coded, refused_range, refused_precision, refused_record, accepted}
 use Rattle.stage.proofs.state.Stage.write_mv.Goals as goal
 
-pub returns-in_default : goal.returns-in_default
-returns-in_default g c =
+pub returns-in_err-high-clause-step : goal.returns-in_err-high-clause-step
+returns-in_err-high-clause-step g c =
     let k = g.S.Sink in
     let s = c.args.self.now in
     let beyond : magnitude c.args.row ≤ 16384 → ⊥ = search rules in
-    record {
-      step = λ memory.
-          refused_range (length memory) (k.rooms c.args.sink.now) (state_of s memory) s.journal (lanes c.args.log.now) (k.list c.args.sink.now)
-          c.args.precision c.args.row c.args.col (λ a b. beyond a);
-      rooms = refl;
-      still = λ h. (refl, refl);
-      memory = search rules;
-    }
+    let p = err_from_is_err_and c.from_residual.result c.from_residual.ensures.1 in
+    let why : c.in_err-high.field-0.0 ≡ no.VectorRange = search rules in
+    rw (p.1, p.2, why) (λ memory.
+    refused_range (length memory) (k.rooms c.args.sink.now) (state_of s memory) s.journal (lanes c.args.log.now) (k.list c.args.sink.now)
+    c.args.precision c.args.row c.args.col (λ a b. beyond a))
 
-pub returns-in_default-split_component : goal.returns-in_default-split_component
-returns-in_default-split_component g c =
+pub returns-in_err-wide-clause-step : goal.returns-in_err-wide-clause-step
+returns-in_err-wide-clause-step g c =
     let k = g.S.Sink in
     let s = c.args.self.now in
     let beyond : magnitude c.args.col ≤ 16384 → ⊥ = search rules in
-    record {
-      step = λ memory.
-          refused_range (length memory) (k.rooms c.args.sink.now) (state_of s memory) s.journal (lanes c.args.log.now) (k.list c.args.sink.now)
-          c.args.precision c.args.row c.args.col (λ a b. beyond b);
-      rooms = refl;
-      still = λ h. (refl, refl);
-      memory = search rules;
-    }
+    let p = err_from_is_err_and c.from_residual-in_err-wide.result c.from_residual-in_err-wide.ensures.1 in
+    let why : c.in_err-wide.field-0.0 ≡ no.VectorRange = search rules in
+    rw (p.1, p.2, why) (λ memory.
+    refused_range (length memory) (k.rooms c.args.sink.now) (state_of s memory) s.journal (lanes c.args.log.now) (k.list c.args.sink.now)
+    c.args.precision c.args.row c.args.col (λ a b. beyond b))
 
 pub returns-then-high-step-ne0 : goal.returns-then-high-step-ne0
 returns-then-high-step-ne0 g c =
@@ -48,12 +43,12 @@ returns-then-high-step-ne0 g c =
     let p = c.args.precision in
     let row : ℤ = c.args.row in
     let col : ℤ = c.args.col in
-    let high : ℕ = c.in-Some.high in
-    let wide : ℕ = c.in-Some-split_component.wide in
-    let first : SplitAs row c.in-Some.field-0-0 high = search rules in
-    let next : SplitAs col c.in-Some-split_component.field-0-0 wide = search rules in
-    let x = split_as row c.in-Some.field-0-0 high first in
-    let y = split_as col c.in-Some-split_component.field-0-0 wide next in
+    let high : ℕ = c.in_ok-high.high in
+    let wide : ℕ = c.in_ok-wide.wide in
+    let first : SplitAs row c.in_ok-high.field-0-0 high = search rules in
+    let next : SplitAs col c.in_ok-wide.field-0-0 wide = search rules in
+    let x = split_as row c.in_ok-high.field-0-0 high first in
+    let y = split_as col c.in_ok-wide.field-0-0 wide next in
     let coarse : high % c.mv_step-step.result ≡ 0 → wide % c.mv_step-step.result ≡ 0 → ⊥ = search rules in
     let size : c.mv_step-step.result ≡ step_of p = c.mv_step-step.ensures.value in
     record {
@@ -72,20 +67,20 @@ returns-in_err-ask_record g c =
     let p = c.args.precision in
     let row : ℤ = c.args.row in
     let col : ℤ = c.args.col in
-    let high : ℕ = c.in-Some.high in
-    let wide : ℕ = c.in-Some-split_component.wide in
-    let first : SplitAs row c.in-Some.field-0-0 high = search rules in
-    let next : SplitAs col c.in-Some-split_component.field-0-0 wide = search rules in
+    let high : ℕ = c.in_ok-high.high in
+    let wide : ℕ = c.in_ok-wide.wide in
+    let first : SplitAs row c.in_ok-high.field-0-0 high = search rules in
+    let next : SplitAs col c.in_ok-wide.field-0-0 wide = search rules in
     let fine : high % c.mv_step-step.result ≡ 0 = search rules in
     let fine' : wide % c.mv_step-step.result ≡ 0 = search rules in
     let is : Taken p row col high wide c.component_symbols.result c.component_symbols-2.result =
-    taken p row col c.in-Some.field-0-0 high c.in-Some-split_component.field-0-0 wide c.mv_step-step.result c.component_symbols.result c.component_symbols-2.result
+    taken p row col c.in_ok-high.field-0-0 high c.in_ok-wide.field-0-0 wide c.mv_step-step.result c.component_symbols.result c.component_symbols-2.result
     first next c.mv_step-step.ensures.value fine fine' c.component_symbols.ensures.value c.component_symbols-2.ensures.value in
     let small : ℕ = 1 + (c.component_symbols.result + c.component_symbols-2.result) in
     let large : ℕ = bool_byte (not (eqb high 0)) + bool_byte (not (eqb wide 0)) in
     let few : small ≡ vector_small p row col = omega (arith, is.row_count, is.col_count) in
     let many : large ≡ vector_large row col = omega (arith, is.rows, is.cols) in
-    let e = err_from_is_err_and c.from_residual.result c.from_residual.ensures.1 in
+    let e = err_from_is_err_and c.from_residual-in_err-ask_record.result c.from_residual-in_err-ask_record.ensures.1 in
     rw (e.1, e.2) (record {
       step = λ memory.
           refused_record (length memory) (k.rooms c.args.sink.now) (state_of s memory) s.journal (lanes c.args.log.now) (k.list c.args.sink.now)
@@ -105,14 +100,14 @@ symbol-requires g c =
     let p = c.args.precision in
     let row : ℤ = c.args.row in
     let col : ℤ = c.args.col in
-    let high : ℕ = c.in-Some.high in
-    let wide : ℕ = c.in-Some-split_component.wide in
-    let first : SplitAs row c.in-Some.field-0-0 high = search rules in
-    let next : SplitAs col c.in-Some-split_component.field-0-0 wide = search rules in
+    let high : ℕ = c.in_ok-high.high in
+    let wide : ℕ = c.in_ok-wide.wide in
+    let first : SplitAs row c.in_ok-high.field-0-0 high = search rules in
+    let next : SplitAs col c.in_ok-wide.field-0-0 wide = search rules in
     let fine : high % c.mv_step-step.result ≡ 0 = search rules in
     let fine' : wide % c.mv_step-step.result ≡ 0 = search rules in
     let is : Taken p row col high wide c.component_symbols.result c.component_symbols-2.result =
-    taken p row col c.in-Some.field-0-0 high c.in-Some-split_component.field-0-0 wide c.mv_step-step.result c.component_symbols.result c.component_symbols-2.result
+    taken p row col c.in_ok-high.field-0-0 high c.in_ok-wide.field-0-0 wide c.mv_step-step.result c.component_symbols.result c.component_symbols-2.result
     first next c.mv_step-step.ensures.value fine fine' c.component_symbols.ensures.value c.component_symbols-2.ensures.value in
     let m : Moment = moment c.args.self.now c.args.log.now (k.rooms c.args.sink.now) (k.list c.args.sink.now) in
     let room : RoomFor (vector_small p row col) (vector_large row col) m =
@@ -132,14 +127,14 @@ encode_mv_component-requires g c =
     let p = c.args.precision in
     let row : ℤ = c.args.row in
     let col : ℤ = c.args.col in
-    let high : ℕ = c.in-Some.high in
-    let wide : ℕ = c.in-Some-split_component.wide in
-    let first : SplitAs row c.in-Some.field-0-0 high = search rules in
-    let next : SplitAs col c.in-Some-split_component.field-0-0 wide = search rules in
+    let high : ℕ = c.in_ok-high.high in
+    let wide : ℕ = c.in_ok-wide.wide in
+    let first : SplitAs row c.in_ok-high.field-0-0 high = search rules in
+    let next : SplitAs col c.in_ok-wide.field-0-0 wide = search rules in
     let fine : high % c.mv_step-step.result ≡ 0 = search rules in
     let fine' : wide % c.mv_step-step.result ≡ 0 = search rules in
     let is : Taken p row col high wide c.component_symbols.result c.component_symbols-2.result =
-    taken p row col c.in-Some.field-0-0 high c.in-Some-split_component.field-0-0 wide c.mv_step-step.result c.component_symbols.result c.component_symbols-2.result
+    taken p row col c.in_ok-high.field-0-0 high c.in_ok-wide.field-0-0 wide c.mv_step-step.result c.component_symbols.result c.component_symbols-2.result
     first next c.mv_step-step.ensures.value fine fine' c.component_symbols.ensures.value c.component_symbols-2.ensures.value in
     let m : Moment = moment c.args.self.now c.args.log.now (k.rooms c.args.sink.now) (k.list c.args.sink.now) in
     let room : RoomFor (vector_small p row col) (vector_large row col) m =
@@ -165,14 +160,14 @@ encode_mv_component-requires-2 g c =
     let p = c.args.precision in
     let row : ℤ = c.args.row in
     let col : ℤ = c.args.col in
-    let high : ℕ = c.in-Some.high in
-    let wide : ℕ = c.in-Some-split_component.wide in
-    let first : SplitAs row c.in-Some.field-0-0 high = search rules in
-    let next : SplitAs col c.in-Some-split_component.field-0-0 wide = search rules in
+    let high : ℕ = c.in_ok-high.high in
+    let wide : ℕ = c.in_ok-wide.wide in
+    let first : SplitAs row c.in_ok-high.field-0-0 high = search rules in
+    let next : SplitAs col c.in_ok-wide.field-0-0 wide = search rules in
     let fine : high % c.mv_step-step.result ≡ 0 = search rules in
     let fine' : wide % c.mv_step-step.result ≡ 0 = search rules in
     let is : Taken p row col high wide c.component_symbols.result c.component_symbols-2.result =
-    taken p row col c.in-Some.field-0-0 high c.in-Some-split_component.field-0-0 wide c.mv_step-step.result c.component_symbols.result c.component_symbols-2.result
+    taken p row col c.in_ok-high.field-0-0 high c.in_ok-wide.field-0-0 wide c.mv_step-step.result c.component_symbols.result c.component_symbols-2.result
     first next c.mv_step-step.ensures.value fine fine' c.component_symbols.ensures.value c.component_symbols-2.ensures.value in
     let m : Moment = moment c.args.self.now c.args.log.now (k.rooms c.args.sink.now) (k.list c.args.sink.now) in
     let room : RoomFor (vector_small p row col) (vector_large row col) m =
@@ -205,14 +200,14 @@ returns g c =
     let p = c.args.precision in
     let row : ℤ = c.args.row in
     let col : ℤ = c.args.col in
-    let high : ℕ = c.in-Some.high in
-    let wide : ℕ = c.in-Some-split_component.wide in
-    let first : SplitAs row c.in-Some.field-0-0 high = search rules in
-    let next : SplitAs col c.in-Some-split_component.field-0-0 wide = search rules in
+    let high : ℕ = c.in_ok-high.high in
+    let wide : ℕ = c.in_ok-wide.wide in
+    let first : SplitAs row c.in_ok-high.field-0-0 high = search rules in
+    let next : SplitAs col c.in_ok-wide.field-0-0 wide = search rules in
     let fine : high % c.mv_step-step.result ≡ 0 = search rules in
     let fine' : wide % c.mv_step-step.result ≡ 0 = search rules in
     let is : Taken p row col high wide c.component_symbols.result c.component_symbols-2.result =
-    taken p row col c.in-Some.field-0-0 high c.in-Some-split_component.field-0-0 wide c.mv_step-step.result c.component_symbols.result c.component_symbols-2.result
+    taken p row col c.in_ok-high.field-0-0 high c.in_ok-wide.field-0-0 wide c.mv_step-step.result c.component_symbols.result c.component_symbols-2.result
     first next c.mv_step-step.ensures.value fine fine' c.component_symbols.ensures.value c.component_symbols-2.ensures.value in
     let small : ℕ = 1 + (c.component_symbols.result + c.component_symbols-2.result) in
     let large : ℕ = bool_byte (not (eqb high 0)) + bool_byte (not (eqb wide 0)) in
