@@ -1,7 +1,7 @@
 -- The entry of a symbol of a lawful table is an entry.
 use Rattle.std.proofs.Common.{◌≡◌, ℕ, zero, suc, ◌+◌, ◌<◌, ◌≤◌, Bool, true, false, cond, ◌&&◌, ◌||◌, T, eqb, ltb, leb, List, [], ◌∷◌, length, get_or, subst, refl, arith, le→leb, eqb→eq, ltb→lt, lt→ltb, leb→le}
 use native.Mathlib.Decide.{dec_lt, ℕ_discrete}
-use lib.Dec.{eqb_refl}
+use Rattle.std.proofs.lemmas.Bool.Decides.{nat_tests}
 use Rattle.std.proofs.lemmas.List.{get_or_past}
 use Rattle.cdf.specs.Entries.{is_entry}
 use Rattle.cdf.specs.Layout.{words_in_all, tables, descends, all_descend, all_zero, fillers, lawful, table_sizes, in_layout}
@@ -71,17 +71,9 @@ value_high top (v ∷ x ∷ xs) zero d h = d.0
 value_high top (v ∷ x ∷ xs) (suc s) d h = let low : get_or (x ∷ xs) s 0 ≤ v = value_high v (x ∷ xs) s d.1 (omega arith) in omega (arith, d.0)
 
 -- the values around a symbol do not rise
-pub value_order : (count : ℕ) (vs : List ℕ) (s : ℕ) → length vs ≡ count → LawfulTable vs → s < count → fh_at count vs s ≤ fl_at vs s
-value_order count vs s long falls l = upper s (eqb (suc s) count) (eqb→eq (suc s) count) (λ n. more (ℕ_discrete (suc s) count) n)
-  where
-    upper : (s : ℕ) (b : Bool) → (T b → suc s ≡ count) → ((T b → ⊥) → s + 1 < count) → cond b 0 (get_or vs s 0) ≤ fl_at vs s
-    upper s true e n = omega arith
-    upper zero false e n = value_falls 32768 vs zero falls (omega (arith, long, n (λ z. z)))
-    upper (suc s) false e n = value_falls 32768 vs (suc s) falls (omega (arith, long, n (λ z. z)))
-
-    more : Dec (suc s ≡ count) → (T (eqb (suc s) count) → ⊥) → s + 1 < count
-    more (yes e) n = absurd (n (subst (λ k. T (eqb (suc s) k)) e (eqb_refl (suc s))))
-    more (no e) n = omega (arith, l)
+pub value_order : (vs : List ℕ) (s : ℕ) → LawfulTable vs → s < length vs → fh_at (length vs) vs s ≤ fl_at vs s
+value_order vs zero falls l = let f : 1 < length vs → get_or vs 0 0 ≤ 32768 = λ h. value_falls 32768 vs 0 falls (omega (arith, h)) in grind (arith, nat_tests)
+value_order vs (suc s) falls l = let f : suc (suc s) < length vs → get_or vs (suc s) 0 ≤ get_or vs s 0 = λ h. value_falls 32768 vs (suc s) falls (omega (arith, h)) in grind (arith, nat_tests)
 
 pub entry_lawful : (vs : List ℕ) (s : ℕ) → descends 32768 vs ≡ true → 2 ≤ length vs → length vs ≤ 16 → s < length vs → is_entry (entry_at (length vs) vs s) ≡ true
 entry_lawful vs s lawful least most below =
@@ -89,7 +81,7 @@ entry_lawful vs s lawful least most below =
     (and_both (ltb s (length vs)) _ (lt→ltb s (length vs) below)
     (and_both (leb 2 (length vs)) _ (le→leb 2 (length vs) least)
     (and_both (leb (length vs) 16) _ (le→leb (length vs) 16 most)
-    (and_both (leb (fh_at (length vs) vs s) (fl_at vs s)) _ (le→leb _ _ (value_order (length vs) vs s refl falls below)) (le→leb _ _ (high s below))))))
+    (and_both (leb (fh_at (length vs) vs s) (fl_at vs s)) _ (le→leb _ _ (value_order vs s falls below)) (le→leb _ _ (high s below))))))
   where
     falls : LawfulTable vs
     falls = lawful_words vs lawful

@@ -29,7 +29,7 @@ fn table_size(first: usize) -> usize
 // Whether the layout has a table of `n` symbols at word `first`.
 pub(crate) fn has_table(first: usize, n: usize) -> bool
     ensures value { result ≡ in_layout (table first n) }
-    ensures inside { result ≡ true → (first + n ≤ 430) × (n ≤ 16) }
+    ensures inside { result ≡ true → first + n ≤ 430 }
 {
     n > 0 && table_size(first) == n
 }
