@@ -24,34 +24,6 @@ table_lawful w t h fits =
     let member : (i : ℕ) × Member t tables i = member_in_layout t h in
     T→true _ (all_at w tables t member.0 (and_first (all_descend w tables) (all_zero w fillers) (true→T (all_descend w tables && all_zero w fillers) fits)) member.1)
 
--- no table has one symbol only
-sizes_least : T (all_below words_in_all (λ f. eqb (get_or table_sizes f 0) 0 || leb 2 (get_or table_sizes f 0)))
-unfolding table_sizes
-sizes_least = tt
-
-pub table_least : (t : Table) → in_layout t ≡ true → 2 ≤ t.count
-unfolding in_layout
-table_least t h = go (dec_lt t.first words_in_all)
-  where
-    test : T (ltb 0 t.count && eqb (get_or table_sizes t.first 0) t.count)
-    test = true→T (ltb 0 t.count && eqb (get_or table_sizes t.first 0) t.count) h
-
-    some : 0 < t.count
-    some = ltb→lt 0 t.count (and_first (ltb 0 t.count) _ test)
-
-    size : get_or table_sizes t.first 0 ≡ t.count
-    size = eqb→eq (get_or table_sizes t.first 0) t.count (and_second (ltb 0 t.count) _ test)
-
-    pick : (b : Bool) → (T b → get_or table_sizes t.first 0 ≡ 0) → T (b || leb 2 (get_or table_sizes t.first 0)) → 2 ≤ t.count
-    pick true e k = let none : get_or table_sizes t.first 0 ≡ 0 = e tt in absurd (omega (arith, none, size, some))
-    pick false e k = let two : 2 ≤ get_or table_sizes t.first 0 = leb→le 2 (get_or table_sizes t.first 0) k in omega (arith, two, size)
-
-    go : Dec (t.first < words_in_all) → 2 ≤ t.count
-    go (yes l) =
-        pick (eqb (get_or table_sizes t.first 0) 0) (eqb→eq (get_or table_sizes t.first 0) 0)
-        (all_below_at words_in_all (λ f. eqb (get_or table_sizes f 0) 0 || leb 2 (get_or table_sizes f 0)) sizes_least t.first l)
-    go (no l) = let past : get_or table_sizes t.first 0 ≡ 0 = get_or_past table_sizes t.first 0 (omega (arith, sizes_number)) in absurd (omega (arith, past, size, some))
-
 -- the value before a place, from a bound on
 abbrev before : ℕ → List ℕ → ℕ → ℕ
 before top vs zero = top

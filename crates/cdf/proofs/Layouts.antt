@@ -1,6 +1,6 @@
 -- The tables of the layout lie apart from each other and from the fillers, so that a symbol leaves the words sound.
 use Rattle.std.proofs.Common.{◌≡◌, ℕ, zero, suc, ◌+◌, ◌-◌, ◌<◌, ◌≤◌, Bool, true, false, ◌&&◌, ◌||◌, T, eqb, ltb, leb, ◌⊎◌, List, [], ◌∷◌, length, get_or, take, drop, sym, refl, ap, ◌∙◌, subst, ap₂, inl, inr, arith, le→leb, eqb→eq, ltb→lt, leb→le}
-use native.Mathlib.Decide.{dec_lt}
+use Rattle.std.proofs.lemmas.Bool.{cases_lt, ltb-true, eqb-true, and_parts, ne_eqb}
 use lib.Seq.{sets, length-sets}
 use Rattle.std.proofs.lemmas.List.{length-take, length-drop, get_or_past}
 use Rattle.cdf.specs.Layout.{words_in_all, tables, small_tables, large_tables, fillers, descends, all_descend, all_zero, lawful, table_sizes, in_layout, WordsStaySound}
@@ -127,41 +127,44 @@ member_listed (u ∷ ts) t h = go (eqb u.first t.first && eqb u.count t.count) (
     )
     go false e h rec = let r : (i : ℕ) × Member t ts i = rec h in (suc r.0, r.1)
 
--- at each word: no table begins there, or one that is listed
-sizes_listed : T (all_below words_in_all (λ f. eqb (get_or table_sizes f 0) 0 || listed (table f (get_or table_sizes f 0)) tables))
-unfolding tables small_tables large_tables table_sizes
-sizes_listed = tt
-
 pub sizes_number : length table_sizes ≡ words_in_all
 unfolding table_sizes
 sizes_number = refl
 
-pub member_in_layout : (t : Table) → in_layout t ≡ true → (i : ℕ) × Member t tables i
+-- what holds of the table at each word where one begins holds of each table of the layout
+each_table : (P : Table → Bool) → T (all_below words_in_all (λ f. eqb (get_or table_sizes f 0) 0 || P (table f (get_or table_sizes f 0)))) → (t : Table) → in_layout t ≡ true → T (P t)
 unfolding in_layout
-member_in_layout t h = member_listed tables t (subst (λ n. T (listed (table t.first n) tables)) size (found (eqb (get_or table_sizes t.first 0) 0) (eqb→eq (get_or table_sizes t.first 0) 0) here))
+each_table P all t h = go (cases_lt t.first words_in_all)
   where
-    test : T (ltb 0 t.count && eqb (get_or table_sizes t.first 0) t.count)
-    test = true→T (ltb 0 t.count && eqb (get_or table_sizes t.first 0) t.count) h
-
     some : 0 < t.count
-    some = ltb→lt 0 t.count (and_first (ltb 0 t.count) _ test)
+    some = ltb-true 0 t.count (and_parts (ltb 0 t.count) _ h).0
 
     size : get_or table_sizes t.first 0 ≡ t.count
-    size = eqb→eq (get_or table_sizes t.first 0) t.count (and_second (ltb 0 t.count) _ test)
+    size = eqb-true _ t.count (and_parts (ltb 0 t.count) _ h).1
 
-    within : t.first < words_in_all
-    within = go (dec_lt t.first words_in_all)
-      where
-        go : Dec (t.first < words_in_all) → t.first < words_in_all
-        go (yes l) = l
-        go (no l) = let past : get_or table_sizes t.first 0 ≡ 0 = get_or_past table_sizes t.first 0 (omega (arith, sizes_number)) in absurd (omega (arith, past, size, some))
+    found : (n : ℕ) → n ≡ t.count → T (eqb n 0 || P (table t.first n)) → T (P t)
+    found n e k = subst (λ m. T (P (table t.first m))) e (rw (ne_eqb n 0 (λ z. let none : ⊥ = omega (arith, some) in none)) at k)
 
-    here : T (eqb (get_or table_sizes t.first 0) 0 || listed (table t.first (get_or table_sizes t.first 0)) tables)
-    here = all_below_at words_in_all (λ f. eqb (get_or table_sizes f 0) 0 || listed (table f (get_or table_sizes f 0)) tables) sizes_listed t.first within
+    go : (t.first < words_in_all) ⊎ (words_in_all ≤ t.first) → T (P t)
+    go (inl l) = found _ size (all_below_at words_in_all (λ f. eqb (get_or table_sizes f 0) 0 || P (table f (get_or table_sizes f 0))) all t.first l)
+    go (inr l) = let past : get_or table_sizes t.first 0 ≡ 0 = get_or_past table_sizes t.first 0 (omega (arith, sizes_number)) in absurd (omega (arith, size, some))
 
-    found : (b : Bool) → (T b → get_or table_sizes t.first 0 ≡ 0) → T (b || listed (table t.first (get_or table_sizes t.first 0)) tables) → T (listed (table t.first (get_or table_sizes t.first 0)) tables)
-    found true e k = let none : get_or table_sizes t.first 0 ≡ 0 = e tt in absurd (omega (arith, none, size, some))
-    found false e k = k
+sizes_listed : T (all_below words_in_all (λ f. eqb (get_or table_sizes f 0) 0 || listed (table f (get_or table_sizes f 0)) tables))
+unfolding tables small_tables large_tables table_sizes
+sizes_listed = tt
+
+pub member_in_layout : (t : Table) → in_layout t ≡ true → (i : ℕ) × Member t tables i
+member_in_layout t h = member_listed tables t (each_table (λ u. listed u tables) sizes_listed t h)
+
+-- no table has one symbol only or more than 16
+sizes_fit : T (all_below words_in_all (λ f. eqb (get_or table_sizes f 0) 0 || (leb 2 (get_or table_sizes f 0) && leb (get_or table_sizes f 0) 16)))
+unfolding table_sizes
+sizes_fit = tt
+
+pub table_count : (t : Table) → in_layout t ≡ true → (2 ≤ t.count) × (t.count ≤ 16)
+table_count t h =
+    let fits : T (leb 2 t.count && leb t.count 16) = each_table (λ u. leb 2 u.count && leb u.count 16) sizes_fit t h in
+    (leb→le 2 t.count (and_first (leb 2 t.count) _ fits), leb→le t.count 16 (and_second (leb 2 t.count) _ fits))
 
 pub table_inside : (t : Table) → in_layout t ≡ true → t.first + t.count ≤ words_in_all
 table_inside t h =
@@ -217,18 +220,3 @@ words_stay_sound w t s m sound =
   where
     short : length (adapted t.count (words_of w t) s) ≤ t.count
     short = rw (length_moved _ s 0 (words_of w t)) (rw length-take (omega arith))
-
-sizes_small : T (all_below words_in_all (λ f. leb (get_or table_sizes f 0) 16))
-unfolding table_sizes
-sizes_small = tt
-
-pub table_most : (t : Table) → in_layout t ≡ true → t.count ≤ 16
-unfolding in_layout
-table_most t h =
-    let test : T (ltb 0 t.count && eqb (get_or table_sizes t.first 0) t.count) = true→T (ltb 0 t.count && eqb (get_or table_sizes t.first 0) t.count) h in
-    let size : get_or table_sizes t.first 0 ≡ t.count = eqb→eq (get_or table_sizes t.first 0) t.count (and_second (ltb 0 t.count) _ test) in
-    omega (arith, size, small (dec_lt t.first words_in_all))
-  where
-    small : Dec (t.first < words_in_all) → get_or table_sizes t.first 0 ≤ 16
-    small (yes l) = leb→le (get_or table_sizes t.first 0) 16 (all_below_at words_in_all (λ f. leb (get_or table_sizes f 0) 16) sizes_small t.first l)
-    small (no l) = let past : get_or table_sizes t.first 0 ≡ 0 = get_or_past table_sizes t.first 0 (omega (arith, sizes_number)) in omega (arith, past)
