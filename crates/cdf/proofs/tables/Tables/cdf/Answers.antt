@@ -2,8 +2,7 @@ use Rattle.std.proofs.Common.{◌≡◌, ℕ, ◌+◌, ◌-◌, ◌≤◌, true,
 use borrow.Rule.Slice.PartMut.{mid_of}
 use Rattle.cdf.specs.Layout.{descends}
 use Rattle.cdf.specs.Words.{table, words_of}
-use Rattle.cdf.proofs.Entries.{table_lawful}
-use Rattle.cdf.proofs.Layouts.{table_count}
+use Rattle.cdf.proofs.Layouts.{table_count, table_lawful}
 use Rattle.cdf.proofs.Symbols.{length_table}
 use Rattle.cdf.proofs.tables.Tables.cdf.Goals as goal
 
