@@ -1,8 +1,7 @@
 -- Windows of 4 words and windows of 16 words have no word and no table in common, so that putting one back does not
 -- touch what the other holds, and none of it depends on the order.
 use Rattle.std.proofs.Common.{◌≡◌, ℕ, zero, suc, ◌+◌, ◌<◌, ◌≤◌, Bool, true, false, cond, ◌&&◌, ◌||◌, T, eqb, leb, ◌⊎◌, List, [], ◌∷◌, ◌++◌, length, get_or, take, sym, refl, ap, ◌∙◌, subst, ap₂, inl, inr, arith, le→leb, eqb→eq, leb→le}
-use native.Mathlib.Decide.{dec_le}
-use Rattle.std.proofs.lemmas.Bool.{and_parts}
+use Rattle.std.proofs.lemmas.Bool.{and_parts, le-leb}
 use Rattle.std.proofs.lemmas.Bool.Decides.{nat_tests}
 use lib.Seq.{sets, length-sets}
 use Rattle.std.proofs.lemmas.List.{length-take}
@@ -27,11 +26,7 @@ large_range f h = let e = T→true (large_place f) h in grind (arith, nat_tests)
 
 -- windows of the two kinds have no word in common
 pub apart : (f g : ℕ) → T (small_place f) → T (large_place g) → (f + 4 ≤ g) ⊎ (g + 16 ≤ f)
-apart f g h k = go (dec_le (f + 4) g) (small_range f h) (large_range g k)
-  where
-    go : Dec (f + 4 ≤ g) → (f ≤ 18) ⊎ ((f ≡ 302) ⊎ (Between 318 f 354 ⊎ Between 374 f 410)) → Between 22 g 286 ⊎ ((g ≡ 358) ⊎ (g ≡ 414)) → (f + 4 ≤ g) ⊎ (g + 16 ≤ f)
-    go (yes p) s l = inl p
-    go (no p) s l = inr (omega arith)
+apart f g h k = let r = small_range f h in let q = large_range g k in grind arith
 
 -- a window of one kind does not touch the tables of the other
 abbrev all_placed : (ℕ → Bool) → ℕ → List Table → Bool
@@ -114,31 +109,18 @@ two_parts w =
     swap true false false d = refl
     swap true true c d = refl
 
-abbrev Off : ℕ → ℕ → ℕ → ℕ → Type 0
-Off a n f m = (a + n ≤ f) ⊎ (f + m ≤ a)
-
 high_untouched : (w : Words) (f : ℕ) (us : List ℕ) → T (small_place f) → length us ≤ 4 → high (sets w f us) ≡ high w
 unfolding high
 high_untouched w f us h k =
+    let r = small_range f h in
     ap₂ (λ x y. x && y) (large_untouched w f us h k)
     (zero_append (sets w f us) (from 369 5) (from 425 5)
-    ∙ ap₂ (λ x y. x && y) (zeros_apart 5 369 w f us (off 369 (small_range f h) (dec_le 374 f) (omega arith) (omega arith) (omega arith))) (zeros_apart 5 425 w f us (inr (last (small_range f h))))
+    ∙ ap₂ (λ x y. x && y) (zeros_apart 5 369 w f us (grind arith)) (zeros_apart 5 425 w f us (inr (omega arith)))
     ∙ sym (zero_append w (from 369 5) (from 425 5)))
-  where
-    off : (a : ℕ) → (f ≤ 18) ⊎ ((f ≡ 302) ⊎ (Between 318 f 354 ⊎ Between 374 f 410)) → Dec (374 ≤ f) → a ≡ 369 → a + 5 ≡ 374 → 0 ≤ f → Off a 5 f (length us)
-    off a r (yes l) e e' z = inl (omega arith)
-    off a r (no l) e e' z = inr (omega arith)
-
-    last : (f ≤ 18) ⊎ ((f ≡ 302) ⊎ (Between 318 f 354 ⊎ Between 374 f 410)) → f + length us ≤ 425
-    last r = omega arith
 
 low_untouched : (w : Words) (g : ℕ) (vs : List ℕ) → T (large_place g) → length vs ≤ 16 → low (sets w g vs) ≡ low w
 unfolding low
-low_untouched w g vs h k = ap₂ (λ x y. x && y) (small_untouched w g vs h k) (zeros_apart 12 306 w g vs (off (large_range g h) (dec_le 318 g)))
-  where
-    off : Between 22 g 286 ⊎ ((g ≡ 358) ⊎ (g ≡ 414)) → Dec (318 ≤ g) → Off 306 12 g (length vs)
-    off r (yes l) = inl (omega arith)
-    off r (no l) = inr (omega arith)
+low_untouched w g vs h k = let r = large_range g h in ap₂ (λ x y. x && y) (small_untouched w g vs h k) (zeros_apart 12 306 w g vs (grind arith))
 
 -- a put-back keeps words sound
 cond_sound : (b : Bool) (v w : Words) → (b ≡ true → SoundWords v) → SoundWords w → SoundWords (cond b v w)
@@ -155,16 +137,10 @@ parts : (w : Words) → SoundWords w → (low w ≡ true) × (high w ≡ true)
 parts w s = and_parts (low w) (high w) (sym (two_parts w) ∙ s.fits)
 
 pub inside_small : (f : ℕ) (us : List ℕ) → T (small_place f) → length us ≤ 4 → leb (f + length us) words_in_all ≡ true
-inside_small f us h k = T→true _ (le→leb (f + length us) words_in_all (go (small_range f h)))
-  where
-    go : (f ≤ 18) ⊎ ((f ≡ 302) ⊎ (Between 318 f 354 ⊎ Between 374 f 410)) → f + length us ≤ words_in_all
-    go r = omega arith
+inside_small f us h k = let r = small_range f h in le-leb _ words_in_all (omega arith)
 
 pub inside_large : (g : ℕ) (vs : List ℕ) → T (large_place g) → length vs ≤ 16 → leb (g + length vs) words_in_all ≡ true
-inside_large g vs h k = T→true _ (le→leb (g + length vs) words_in_all (go (large_range g h)))
-  where
-    go : Between 22 g 286 ⊎ ((g ≡ 358) ⊎ (g ≡ 414)) → g + length vs ≤ words_in_all
-    go r = omega arith
+inside_large g vs h k = let r = large_range g h in le-leb _ words_in_all (omega arith)
 
 taken_low : (w : Words) (f : ℕ) (us : List ℕ) → SoundWords w → T (small_place f) → length us ≤ 4 → taken_window f us w ≡ low (sets w f us)
 taken_low w f us s h k =
