@@ -55,32 +55,17 @@ descend_apart place n w g vs f (t ∷ ts) h =
     (words_apart w t g vs (f t (and_first (place t.first) (leb t.count n) here) (leb→le t.count n (and_second (place t.first) (leb t.count n) here))))
     (descend_apart place n w g vs f ts (and_second (place t.first && leb t.count n) (all_placed place n ts) h))
 
-pub small_untouched : (w : Words) (g : ℕ) (vs : List ℕ) → T (large_place g) → length vs ≤ 16 → all_descend (sets w g vs) small_tables ≡ all_descend w small_tables
-small_untouched w g vs h k = descend_apart small_place 4 w g vs (λ t p l. go t l (apart t.first g p h)) small_tables small_placed
-  where
-    go : (t : Table) → t.count ≤ 4 → (t.first + 4 ≤ g) ⊎ (g + 16 ≤ t.first) → (t.first + t.count ≤ g) ⊎ (g + length vs ≤ t.first)
-    go t l (inl x) = inl (omega arith)
-    go t l (inr x) = inr (omega arith)
+small_untouched : (w : Words) (g : ℕ) (vs : List ℕ) → T (large_place g) → length vs ≤ 16 → all_descend (sets w g vs) small_tables ≡ all_descend w small_tables
+small_untouched w g vs h k = descend_apart small_place 4 w g vs (λ t p l. let a = apart t.first g p h in grind arith) small_tables small_placed
 
-pub large_untouched : (w : Words) (f : ℕ) (us : List ℕ) → T (small_place f) → length us ≤ 4 → all_descend (sets w f us) large_tables ≡ all_descend w large_tables
-large_untouched w f us h k = descend_apart large_place 16 w f us (λ t p l. go t l (apart f t.first h p)) large_tables large_placed
-  where
-    go : (t : Table) → t.count ≤ 16 → (f + 4 ≤ t.first) ⊎ (t.first + 16 ≤ f) → (t.first + t.count ≤ f) ⊎ (f + length us ≤ t.first)
-    go t l (inl x) = inr (omega arith)
-    go t l (inr x) = inl (omega arith)
+large_untouched : (w : Words) (f : ℕ) (us : List ℕ) → T (small_place f) → length us ≤ 4 → all_descend (sets w f us) large_tables ≡ all_descend w large_tables
+large_untouched w f us h k = descend_apart large_place 16 w f us (λ t p l. let a = apart f t.first h p in grind arith) large_tables large_placed
 
 zeros_apart : (n a : ℕ) (w : Words) (f : ℕ) (vs : List ℕ) → (a + n ≤ f) ⊎ (f + length vs ≤ a) → all_zero (sets w f vs) (from a n) ≡ all_zero w (from a n)
 zeros_apart zero a w f vs h = refl
 zeros_apart (suc n) a w f vs h =
-    ap₂ (λ x y. eqb x 0 && y) (getD_sets_out vs w f a (here h)) (zeros_apart n (suc a) w f vs (next h))
-  where
-    here : (a + suc n ≤ f) ⊎ (f + length vs ≤ a) → (a < f) ⊎ (f + length vs ≤ a)
-    here (inl l) = inl (omega arith)
-    here (inr l) = inr l
-
-    next : (a + suc n ≤ f) ⊎ (f + length vs ≤ a) → (suc a + n ≤ f) ⊎ (f + length vs ≤ suc a)
-    next (inl l) = inl (omega arith)
-    next (inr l) = inr (omega arith)
+    let here : (a < f) ⊎ (f + length vs ≤ a) = grind arith in
+    ap₂ (λ x y. eqb x 0 && y) (getD_sets_out vs w f a here) (zeros_apart n (suc a) w f vs (grind arith))
 
 -- lawful words, by the two regions: the tables of up to 4 symbols with the words behind the joints, and the others
 low : Words → Bool
@@ -197,12 +182,8 @@ put_commute w f g us vs s h k h' k' =
     second : Words
     second = sets w g vs
 
-    both : (f + 4 ≤ g) ⊎ (g + 16 ≤ f) → sets first g vs ≡ sets second f us
-    both (inl l) = sets_cross us vs w f g (omega arith)
-    both (inr l) = sym (sets_cross vs us w g f (omega arith))
-
     e : sets first g vs ≡ sets second f us
-    e = both (apart f g h h')
+    e = crossed w f g us vs h k h' k'
 
     inner : sets first g vs ≡ sets second f us → low (sets second f us) ≡ low first → high (sets first g vs) ≡ high second → (p q : Bool) → low first ≡ p → high second ≡ q
         → cond (high (sets (cond p first w) g vs)) (sets (cond p first w) g vs) (cond p first w) ≡ cond (low (sets (cond q second w) f us)) (sets (cond q second w) f us) (cond q second w)
