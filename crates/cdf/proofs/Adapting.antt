@@ -2,6 +2,7 @@
 use Rattle.std.proofs.Common.{◌≡◌, ℕ, zero, suc, ◌+◌, ◌-◌, ◌*◌, ◌/◌, ◌^◌, ◌<◌, ◌≤◌, Bool, true, false, cond, T, eqb, ltb, ◌⊎◌, List, [], ◌∷◌, ◌++◌, length, get_or, length-append, add-zero, zero-add, sym, refl, ap, ◌∙◌, subst, ap₂, inl, inr, div-lt_iff_lt-mul, add-mul, mul-le-mul_left, one-mul, div-le_self, arith, eqb→eq, ltb→lt, lt→ltb, ext_get_or, pow_pos, pow_mono}
 use native.Mathlib.Decide.{ℕ_discrete}
 use Rattle.std.proofs.lemmas.Bool.{cases_lt, lt-ltb, le-ltb}
+use Rattle.std.proofs.lemmas.Bool.Decides.{nat_tests}
 use native.Mathlib.Nat.{div-eq_of_lt, lt-div-mul-add}
 use lib.Dec.{eqb_refl}
 use Rattle.std.proofs.lemmas.List.{length-set, get_or-set_same, get_or-set_other}
@@ -56,11 +57,7 @@ moved_order r false false v top f l m = lose_order (2 ^ r) v top (pow_pos r) l
 moved_order r false true v top f l m = absurd (f tt)
 
 counter_stays : (c : ℕ) → c ≤ 32 → counted c ≤ 32
-counter_stays c h = go (ltb c 32) (ltb→lt c 32)
-  where
-    go : (b : Bool) → (T b → c < 32) → cond b (suc c) c ≤ 32
-    go true k = k tt
-    go false k = h
+counter_stays c h = grind (arith, nat_tests)
 
 descends : (r s i top : ℕ) (b : Bool) (vs : List ℕ) → (T (ltb i s) → T b) → top ≤ 32768 → Descends top vs → Descends (moved r b top) (moved_from r s i vs)
 descends r s i top b [] f m h = h

@@ -1,56 +1,13 @@
 -- The entry of a symbol of a lawful table is an entry.
 use Rattle.std.proofs.Common.{◌≡◌, ℕ, zero, suc, ◌+◌, ◌<◌, ◌≤◌, Bool, true, false, cond, ◌&&◌, ◌||◌, T, eqb, ltb, leb, List, [], ◌∷◌, length, get_or, subst, refl, arith, le→leb, eqb→eq, ltb→lt, lt→ltb, leb→le}
-use native.Mathlib.Decide.{dec_lt, ℕ_discrete}
-use lib.Dec.{eqb_refl}
-use Rattle.std.proofs.lemmas.List.{get_or_past}
+use Rattle.std.proofs.lemmas.Bool.Decides.{nat_tests}
 use Rattle.cdf.specs.Entries.{is_entry}
 use Rattle.cdf.specs.Layout.{words_in_all, tables, descends, all_descend, all_zero, fillers, lawful, table_sizes, in_layout}
 use Rattle.cdf.specs.Words.{Words, Table, words_of, fl_at, fh_at, entry_at, Descends, LawfulTable}
-use Rattle.cdf.proofs.Booleans.{and_first, and_second, and_both, true→T, T→true}
-use Rattle.cdf.proofs.Layouts.{Member, member_in_layout, descends_back, sizes_number}
-use Rattle.cdf.proofs.Ranges.{all_below, all_below_at}
-
-all_at : (w : Words) (ts : List Table) (t : Table) (i : ℕ) → T (all_descend w ts) → Member t ts i → T (descends 32768 (words_of w t))
-all_at w [] t i h m = absurd m
-all_at w (u ∷ ts) t zero h m = subst (λ (x : Table). T (descends 32768 (words_of w x))) m (and_first (descends 32768 (words_of w u)) (all_descend w ts) h)
-all_at w (u ∷ ts) t (suc i) h m = all_at w ts t i (and_second (descends 32768 (words_of w u)) (all_descend w ts) h) m
+use Rattle.cdf.proofs.Layouts.{descends_back}
 
 pub lawful_words : (vs : List ℕ) → descends 32768 vs ≡ true → LawfulTable vs
-lawful_words vs h = descends_back 32768 vs (true→T (descends 32768 vs) h)
-
-pub table_lawful : (w : Words) (t : Table) → in_layout t ≡ true → lawful w ≡ true → descends 32768 (words_of w t) ≡ true
-unfolding lawful
-table_lawful w t h fits =
-    let member : (i : ℕ) × Member t tables i = member_in_layout t h in
-    T→true _ (all_at w tables t member.0 (and_first (all_descend w tables) (all_zero w fillers) (true→T (all_descend w tables && all_zero w fillers) fits)) member.1)
-
--- no table has one symbol only
-sizes_least : T (all_below words_in_all (λ f. eqb (get_or table_sizes f 0) 0 || leb 2 (get_or table_sizes f 0)))
-unfolding table_sizes
-sizes_least = tt
-
-pub table_least : (t : Table) → in_layout t ≡ true → 2 ≤ t.count
-unfolding in_layout
-table_least t h = go (dec_lt t.first words_in_all)
-  where
-    test : T (ltb 0 t.count && eqb (get_or table_sizes t.first 0) t.count)
-    test = true→T (ltb 0 t.count && eqb (get_or table_sizes t.first 0) t.count) h
-
-    some : 0 < t.count
-    some = ltb→lt 0 t.count (and_first (ltb 0 t.count) _ test)
-
-    size : get_or table_sizes t.first 0 ≡ t.count
-    size = eqb→eq (get_or table_sizes t.first 0) t.count (and_second (ltb 0 t.count) _ test)
-
-    pick : (b : Bool) → (T b → get_or table_sizes t.first 0 ≡ 0) → T (b || leb 2 (get_or table_sizes t.first 0)) → 2 ≤ t.count
-    pick true e k = let none : get_or table_sizes t.first 0 ≡ 0 = e tt in absurd (omega (arith, none, size, some))
-    pick false e k = let two : 2 ≤ get_or table_sizes t.first 0 = leb→le 2 (get_or table_sizes t.first 0) k in omega (arith, two, size)
-
-    go : Dec (t.first < words_in_all) → 2 ≤ t.count
-    go (yes l) =
-        pick (eqb (get_or table_sizes t.first 0) 0) (eqb→eq (get_or table_sizes t.first 0) 0)
-        (all_below_at words_in_all (λ f. eqb (get_or table_sizes f 0) 0 || leb 2 (get_or table_sizes f 0)) sizes_least t.first l)
-    go (no l) = let past : get_or table_sizes t.first 0 ≡ 0 = get_or_past table_sizes t.first 0 (omega (arith, sizes_number)) in absurd (omega (arith, past, size, some))
+lawful_words vs h = descends_back 32768 vs h
 
 -- the value before a place, from a bound on
 abbrev before : ℕ → List ℕ → ℕ → ℕ
@@ -71,29 +28,16 @@ value_high top (v ∷ x ∷ xs) zero d h = d.0
 value_high top (v ∷ x ∷ xs) (suc s) d h = let low : get_or (x ∷ xs) s 0 ≤ v = value_high v (x ∷ xs) s d.1 (omega arith) in omega (arith, d.0)
 
 -- the values around a symbol do not rise
-pub value_order : (count : ℕ) (vs : List ℕ) (s : ℕ) → length vs ≡ count → LawfulTable vs → s < count → fh_at count vs s ≤ fl_at vs s
-value_order count vs s long falls l = upper s (eqb (suc s) count) (eqb→eq (suc s) count) (λ n. more (ℕ_discrete (suc s) count) n)
-  where
-    upper : (s : ℕ) (b : Bool) → (T b → suc s ≡ count) → ((T b → ⊥) → s + 1 < count) → cond b 0 (get_or vs s 0) ≤ fl_at vs s
-    upper s true e n = omega arith
-    upper zero false e n = value_falls 32768 vs zero falls (omega (arith, long, n (λ z. z)))
-    upper (suc s) false e n = value_falls 32768 vs (suc s) falls (omega (arith, long, n (λ z. z)))
-
-    more : Dec (suc s ≡ count) → (T (eqb (suc s) count) → ⊥) → s + 1 < count
-    more (yes e) n = absurd (n (subst (λ k. T (eqb (suc s) k)) e (eqb_refl (suc s))))
-    more (no e) n = omega (arith, l)
+pub value_order : (vs : List ℕ) (s : ℕ) → LawfulTable vs → s < length vs → fh_at (length vs) vs s ≤ fl_at vs s
+value_order vs zero falls l = let f : 1 < length vs → get_or vs 0 0 ≤ 32768 = λ h. value_falls 32768 vs 0 falls (omega (arith, h)) in grind (arith, nat_tests)
+value_order vs (suc s) falls l = let f : suc (suc s) < length vs → get_or vs (suc s) 0 ≤ get_or vs s 0 = λ h. value_falls 32768 vs (suc s) falls (omega (arith, h)) in grind (arith, nat_tests)
 
 pub entry_lawful : (vs : List ℕ) (s : ℕ) → descends 32768 vs ≡ true → 2 ≤ length vs → length vs ≤ 16 → s < length vs → is_entry (entry_at (length vs) vs s) ≡ true
 entry_lawful vs s lawful least most below =
-    T→true (is_entry (entry_at (length vs) vs s))
-    (and_both (ltb s (length vs)) _ (lt→ltb s (length vs) below)
-    (and_both (leb 2 (length vs)) _ (le→leb 2 (length vs) least)
-    (and_both (leb (length vs) 16) _ (le→leb (length vs) 16 most)
-    (and_both (leb (fh_at (length vs) vs s) (fl_at vs s)) _ (le→leb _ _ (value_order (length vs) vs s refl falls below)) (le→leb _ _ (high s below))))))
+    let order : fh_at (length vs) vs s ≤ fl_at vs s = value_order vs s (lawful_words vs lawful) below in
+    let top : fl_at vs s ≤ 32768 = high s below in
+    grind (arith, nat_tests)
   where
-    falls : LawfulTable vs
-    falls = lawful_words vs lawful
-
     high : (s : ℕ) → s < length vs → fl_at vs s ≤ 32768
     high zero l = omega arith
-    high (suc s) l = value_high 32768 vs s falls (omega arith)
+    high (suc s) l = value_high 32768 vs s (lawful_words vs lawful) (omega arith)

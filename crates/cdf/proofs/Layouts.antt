@@ -1,234 +1,148 @@
 -- The tables of the layout lie apart from each other and from the fillers, so that a symbol leaves the words sound.
-use Rattle.std.proofs.Common.{◌≡◌, ℕ, zero, suc, ◌+◌, ◌-◌, ◌<◌, ◌≤◌, Bool, true, false, ◌&&◌, ◌||◌, T, eqb, ltb, leb, ◌⊎◌, List, [], ◌∷◌, length, get_or, take, drop, sym, refl, ap, ◌∙◌, subst, ap₂, inl, inr, arith, le→leb, eqb→eq, ltb→lt, leb→le}
-use native.Mathlib.Decide.{dec_lt}
+use Rattle.std.proofs.Common.{◌≡◌, ℕ, suc, ◌+◌, ◌-◌, ◌<◌, ◌≤◌, Bool, true, ◌&&◌, ◌||◌, T, eqb, ltb, leb, ◌⊎◌, List, [], ◌∷◌, length, get_or, take, drop, sym, refl, ap, ◌∙◌, subst, inl, inr, arith}
 use lib.Seq.{sets, length-sets}
+use Rattle.std.specs.List.{list_all, list_any}
+use Rattle.std.proofs.lemmas.Bool.{cases_lt, ltb-true, leb-true, eqb-true, le-leb, ne_eqb, and_parts, and_from, or_cases}
 use Rattle.std.proofs.lemmas.List.{length-take, length-drop, get_or_past}
+use Rattle.std.proofs.lemmas.List.Folds.{Any-from_list_any}
+use Rattle.std.proofs.lemmas.List.Recursion.{and_at, and_from_places}
+use Rattle.std.proofs.lemmas.List.Sums.{AllPass-from_list_all}
 use Rattle.cdf.specs.Layout.{words_in_all, tables, small_tables, large_tables, fillers, descends, all_descend, all_zero, lawful, table_sizes, in_layout, WordsStaySound}
-use Rattle.cdf.specs.Lists.{Each}
 use Rattle.cdf.specs.Words.{Words, Table, table, words_of, updated, adapted, LawfulTable, Descends}
 use Rattle.cdf.proofs.Adapting.{table_stays_lawful, length_moved}
-use Rattle.cdf.proofs.Booleans.{and_first, and_second, and_both, true→T, T→true}
-use Rattle.cdf.proofs.Ranges.{all_below, all_below_at}
+use Rattle.cdf.proofs.Ranges.{all_below, true_below}
 use Rattle.cdf.proofs.Stores.{sets_before, sets_behind, sets_there, getD_sets_out}
-
--- The words stay lawful, and put-backs of the two kinds of window commute. Assumes nothing.
-abbrev pub Member : {A : Type 0} → A → List A → ℕ → Type 0
-Member x [] i = ⊥
-Member x (y ∷ ys) zero = y ≡ x
-Member x (y ∷ ys) (suc i) = Member x ys i
-
--- two tables are one, or apart, and each lies in the words
-abbrev clear : Table → Table → Bool
-clear t u = leb (t.first + t.count) u.first || (leb (u.first + u.count) t.first || (eqb t.first u.first && eqb t.count u.count))
-
-abbrev clear_of : Table → List Table → Bool
-clear_of t [] = true
-clear_of t (u ∷ us) = clear t u && clear_of t us
-
-abbrev all_clear : List Table → List Table → Bool
-all_clear us [] = true
-all_clear us (t ∷ ts) = (leb (t.first + t.count) words_in_all && clear_of t us) && all_clear us ts
-
-checked : T (all_clear tables tables)
-unfolding tables small_tables large_tables
-checked = tt
-
-member_clear : (us ts : List Table) (t : Table) (i : ℕ) → T (all_clear us ts) → Member t ts i → T (leb (t.first + t.count) words_in_all && clear_of t us)
-member_clear us [] t i h m = absurd m
-member_clear us (u ∷ ts) t zero h m = subst (λ (x : Table). T (leb (x.first + x.count) words_in_all && clear_of x us)) m (and_first (leb (u.first + u.count) words_in_all && clear_of u us) (all_clear us ts) h)
-member_clear us (u ∷ ts) t (suc i) h m = member_clear us ts t i (and_second (leb (u.first + u.count) words_in_all && clear_of u us) (all_clear us ts) h) m
-
-each_clear : (P Q : Table → Type 0) (t : Table) (us : List Table) → ((u : Table) → T (clear t u) → P u → Q u) → T (clear_of t us) → Each P us → Each Q us
-each_clear P Q t [] f h e = tt
-each_clear P Q t (u ∷ us) f h e = (f u (and_first (clear t u) (clear_of t us) h) e.0, each_clear P Q t us f (and_second (clear t u) (clear_of t us) h) e.1)
-
-stays_each : (w : Words) (t : Table) (i s : ℕ) → Member t tables i → length w ≡ words_in_all → Each (λ u. LawfulTable (words_of w u)) tables
-    → Each (λ u. LawfulTable (words_of (updated w t s) u)) tables
-stays_each w t i s m number described =
-    each_clear (λ u. LawfulTable (words_of w u)) (λ u. LawfulTable (words_of (updated w t s) u)) t tables one (and_second (leb (f + n) words_in_all) (clear_of t tables) clean) described
-  where
-    clean : T (leb (t.first + t.count) words_in_all && clear_of t tables)
-    clean = member_clear tables tables t i checked m
-
-    f : ℕ
-    f = t.first
-
-    n : ℕ
-    n = t.count
-
-    vs : List ℕ
-    vs = adapted t.count (words_of w t) s
-
-    fits : f + n ≤ length w
-    fits = let k : t.first + t.count ≤ words_in_all = leb→le (t.first + t.count) words_in_all (and_first (leb (t.first + t.count) words_in_all) (clear_of t tables) clean) in omega (arith, number)
-
-    long : length vs ≡ n
-    long = length_moved _ s 0 (words_of w t) ∙ length-take n (drop f w) ∙ let d : length (drop f w) ≡ length w - f = length-drop f w in omega (arith, fits)
-
-    own : LawfulTable (words_of w t) → LawfulTable (words_of (updated w t s) t)
-    own d =
-        subst LawfulTable (sym (ap (λ (x : ℕ). take x (drop f (sets w f vs))) (sym long) ∙ sets_there vs w f (omega (arith, long, fits))))
-        (table_stays_lawful t.count (words_of w t) s d)
-
-    one : (u : Table) → T (clear t u) → LawfulTable (words_of w u) → LawfulTable (words_of (updated w t s) u)
-    one u c d = go (leb (f + n) u.first) (leb (u.first + u.count) f) (leb→le (f + n) u.first) (leb→le (u.first + u.count) f) c
-      where
-        same : T (eqb f u.first && eqb n u.count) → t ≡ u
-        same h =
-            λ j. record {
-              first = eqb→eq f u.first (and_first (eqb f u.first) (eqb n u.count) h) j;
-              count = eqb→eq n u.count (and_second (eqb f u.first) (eqb n u.count) h) j;
-            }
-
-        go : (a b : Bool) → (T a → f + n ≤ u.first) → (T b → u.first + u.count ≤ f) → T (a || (b || (eqb f u.first && eqb n u.count))) → LawfulTable (words_of (updated w t s) u)
-        go true b x y h = subst LawfulTable (ap (take u.count) (sym (sets_before vs w f u.first (omega (arith, long, x tt))))) d
-        go false true x y h = subst LawfulTable (sym (sets_behind vs w u.first u.count f (y tt))) d
-        go false false x y h =
-            subst (λ (v : Table). LawfulTable (words_of (updated w t s) v)) (same h) (own (subst (λ (v : Table). LawfulTable (words_of w v)) (sym (same h)) d))
-
-descends_test : (top : ℕ) (vs : List ℕ) → Descends top vs → T (descends top vs)
-descends_test top [] h = h
-descends_test top (c ∷ []) h = le→leb c 32 h
-descends_test top (v ∷ x ∷ []) h = and_both (leb v top) (leb x 32) (le→leb v top h.0) (le→leb x 32 h.1)
-descends_test top (v ∷ x ∷ y ∷ ys) h = and_both (leb v top) (descends v (x ∷ y ∷ ys)) (le→leb v top h.0) (descends_test v (x ∷ y ∷ ys) h.1)
-
-all_descend_test : (w : Words) (ts : List Table) → Each (λ t. LawfulTable (words_of w t)) ts → T (all_descend w ts)
-all_descend_test w [] e = tt
-all_descend_test w (t ∷ ts) e = and_both (descends 32768 (words_of w t)) (all_descend w ts) (descends_test 32768 (words_of w t) e.0) (all_descend_test w ts e.1)
-
-pub descends_back : (top : ℕ) (vs : List ℕ) → T (descends top vs) → Descends top vs
-descends_back top [] h = h
-descends_back top (c ∷ []) h = leb→le c 32 h
-descends_back top (v ∷ x ∷ []) h = (leb→le v top (and_first (leb v top) (leb x 32) h), leb→le x 32 (and_second (leb v top) (leb x 32) h))
-descends_back top (v ∷ x ∷ y ∷ ys) h =
-    (leb→le v top (and_first (leb v top) (descends v (x ∷ y ∷ ys)) h), descends_back v (x ∷ y ∷ ys) (and_second (leb v top) (descends v (x ∷ y ∷ ys)) h))
-
-pub each_descends : (w : Words) (ts : List Table) → T (all_descend w ts) → Each (λ t. LawfulTable (words_of w t)) ts
-each_descends w [] h = tt
-each_descends w (t ∷ ts) h =
-    (descends_back 32768 (words_of w t) (and_first (descends 32768 (words_of w t)) (all_descend w ts) h), each_descends w ts (and_second (descends 32768 (words_of w t)) (all_descend w ts) h))
-
--- a table of the layout is one of the listed tables
-abbrev listed : Table → List Table → Bool
-listed t [] = false
-listed t (u ∷ us) = (eqb u.first t.first && eqb u.count t.count) || listed t us
-
-member_listed : (ts : List Table) (t : Table) → T (listed t ts) → (i : ℕ) × Member t ts i
-member_listed [] t h = absurd h
-member_listed (u ∷ ts) t h = go (eqb u.first t.first && eqb u.count t.count) (λ x. x) h (member_listed ts t)
-  where
-    go : (b : Bool) → (T b → T (eqb u.first t.first && eqb u.count t.count)) → T (b || listed t ts) → (T (listed t ts) → (i : ℕ) × Member t ts i) → (i : ℕ) × Member t (u ∷ ts) i
-    go true e h rec = (
-      0,
-      λ j. record {
-        first = eqb→eq u.first t.first (and_first (eqb u.first t.first) _ (e tt)) j;
-        count = eqb→eq u.count t.count (and_second (eqb u.first t.first) _ (e tt)) j;
-      },
-    )
-    go false e h rec = let r : (i : ℕ) × Member t ts i = rec h in (suc r.0, r.1)
-
--- at each word: no table begins there, or one that is listed
-sizes_listed : T (all_below words_in_all (λ f. eqb (get_or table_sizes f 0) 0 || listed (table f (get_or table_sizes f 0)) tables))
-unfolding tables small_tables large_tables table_sizes
-sizes_listed = tt
 
 pub sizes_number : length table_sizes ≡ words_in_all
 unfolding table_sizes
 sizes_number = refl
 
-pub member_in_layout : (t : Table) → in_layout t ≡ true → (i : ℕ) × Member t tables i
+-- what holds of the table at each word where one begins holds of each table of the layout
+pub each_table : (P : Table → Bool) → T (all_below words_in_all (λ f. eqb (get_or table_sizes f 0) 0 || P (table f (get_or table_sizes f 0)))) → (t : Table) → in_layout t ≡ true → P t ≡ true
 unfolding in_layout
-member_in_layout t h = member_listed tables t (subst (λ n. T (listed (table t.first n) tables)) size (found (eqb (get_or table_sizes t.first 0) 0) (eqb→eq (get_or table_sizes t.first 0) 0) here))
+each_table P all t h = go (cases_lt t.first words_in_all)
   where
-    test : T (ltb 0 t.count && eqb (get_or table_sizes t.first 0) t.count)
-    test = true→T (ltb 0 t.count && eqb (get_or table_sizes t.first 0) t.count) h
-
     some : 0 < t.count
-    some = ltb→lt 0 t.count (and_first (ltb 0 t.count) _ test)
+    some = ltb-true 0 t.count (and_parts (ltb 0 t.count) _ h).0
 
     size : get_or table_sizes t.first 0 ≡ t.count
-    size = eqb→eq (get_or table_sizes t.first 0) t.count (and_second (ltb 0 t.count) _ test)
+    size = eqb-true _ t.count (and_parts (ltb 0 t.count) _ h).1
 
-    within : t.first < words_in_all
-    within = go (dec_lt t.first words_in_all)
-      where
-        go : Dec (t.first < words_in_all) → t.first < words_in_all
-        go (yes l) = l
-        go (no l) = let past : get_or table_sizes t.first 0 ≡ 0 = get_or_past table_sizes t.first 0 (omega (arith, sizes_number)) in absurd (omega (arith, past, size, some))
+    found : (n : ℕ) → n ≡ t.count → (eqb n 0 || P (table t.first n)) ≡ true → P t ≡ true
+    found n e k = subst (λ m. P (table t.first m) ≡ true) e (rw (ne_eqb n 0 (λ z. let none : ⊥ = omega (arith, some) in none)) at k)
 
-    here : T (eqb (get_or table_sizes t.first 0) 0 || listed (table t.first (get_or table_sizes t.first 0)) tables)
-    here = all_below_at words_in_all (λ f. eqb (get_or table_sizes f 0) 0 || listed (table f (get_or table_sizes f 0)) tables) sizes_listed t.first within
+    go : (t.first < words_in_all) ⊎ (words_in_all ≤ t.first) → P t ≡ true
+    go (inl l) = found _ size (true_below words_in_all (λ f. eqb (get_or table_sizes f 0) 0 || P (table f (get_or table_sizes f 0))) all t.first l)
+    go (inr l) = let past : get_or table_sizes t.first 0 ≡ 0 = get_or_past table_sizes t.first 0 (omega (arith, sizes_number)) in absurd (omega (arith, size, some))
 
-    found : (b : Bool) → (T b → get_or table_sizes t.first 0 ≡ 0) → T (b || listed (table t.first (get_or table_sizes t.first 0)) tables) → T (listed (table t.first (get_or table_sizes t.first 0)) tables)
-    found true e k = let none : get_or table_sizes t.first 0 ≡ 0 = e tt in absurd (omega (arith, none, size, some))
-    found false e k = k
+-- no table has one symbol only or more than 16
+sizes_fit : T (all_below words_in_all (λ f. eqb (get_or table_sizes f 0) 0 || (leb 2 (get_or table_sizes f 0) && leb (get_or table_sizes f 0) 16)))
+unfolding table_sizes
+sizes_fit = tt
+
+pub table_count : (t : Table) → in_layout t ≡ true → (2 ≤ t.count) × (t.count ≤ 16)
+table_count t h =
+    let fits = and_parts (leb 2 t.count) _ (each_table (λ u. leb 2 u.count && leb u.count 16) sizes_fit t h) in
+    (leb-true 2 t.count fits.0, leb-true t.count 16 fits.1)
+
+abbrev same : Table → Table → Bool
+same t u = eqb t.first u.first && eqb t.count u.count
+
+same_table : (t u : Table) → same t u ≡ true → t ≡ u
+same_table t u e =
+    let k = and_parts (eqb t.first u.first) (eqb t.count u.count) e in
+    λ j. record { first = eqb-true t.first u.first k.0 j; count = eqb-true t.count u.count k.1 j }
+
+-- two tables are one, or apart
+abbrev clear : Table → Table → Bool
+clear t u = leb (t.first + t.count) u.first || (leb (u.first + u.count) t.first || same t u)
+
+abbrev off : Table → ℕ → Bool
+off t i = leb (suc i) t.first || leb (t.first + t.count) i
+
+-- a table lies in the words, apart from the other tables and from the fillers
+abbrev placed : Table → Bool
+placed t = leb (t.first + t.count) words_in_all && (list_all (clear t) tables && list_all (off t) fillers)
+
+sizes_placed : T (all_below words_in_all (λ f. eqb (get_or table_sizes f 0) 0 || placed (table f (get_or table_sizes f 0))))
+unfolding tables small_tables large_tables fillers table_sizes
+sizes_placed = tt
 
 pub table_inside : (t : Table) → in_layout t ≡ true → t.first + t.count ≤ words_in_all
-table_inside t h =
-    let member : (i : ℕ) × Member t tables i = member_in_layout t h in
-    leb→le (t.first + t.count) words_in_all (and_first (leb (t.first + t.count) words_in_all) (clear_of t tables) (member_clear tables tables t member.0 checked member.1))
+table_inside t h = leb-true _ words_in_all (and_parts (leb (t.first + t.count) words_in_all) _ (each_table placed sizes_placed t h)).0
 
--- each filler lies apart from each table
-abbrev off_filler : Table → List ℕ → Bool
-off_filler t [] = true
-off_filler t (i ∷ is) = (leb (suc i) t.first || leb (t.first + t.count) i) && off_filler t is
+descends_test : (top : ℕ) (vs : List ℕ) → Descends top vs → descends top vs ≡ true
+descends_test top [] h = absurd h
+descends_test top (c ∷ []) h = le-leb c 32 h
+descends_test top (v ∷ x ∷ []) h = and_from (leb v top) (leb x 32) (le-leb v top h.0) (le-leb x 32 h.1)
+descends_test top (v ∷ x ∷ y ∷ ys) h = and_from (leb v top) (descends v (x ∷ y ∷ ys)) (le-leb v top h.0) (descends_test v (x ∷ y ∷ ys) h.1)
 
-abbrev all_off : List Table → List ℕ → Bool
-all_off [] is = true
-all_off (t ∷ ts) is = off_filler t is && all_off ts is
+pub descends_back : (top : ℕ) (vs : List ℕ) → descends top vs ≡ true → Descends top vs
+descends_back top [] h = cc
+descends_back top (c ∷ []) h = leb-true c 32 h
+descends_back top (v ∷ x ∷ []) h = let k = and_parts (leb v top) (leb x 32) h in (leb-true v top k.0, leb-true x 32 k.1)
+descends_back top (v ∷ x ∷ y ∷ ys) h = let k = and_parts (leb v top) (descends v (x ∷ y ∷ ys)) h in (leb-true v top k.0, descends_back v (x ∷ y ∷ ys) k.1)
 
-checked_off : T (all_off tables fillers)
-unfolding tables small_tables large_tables fillers
-checked_off = tt
+-- each table of the layout is a listed one, so it is lawful where the words are
+sizes_listed : T (all_below words_in_all (λ f. eqb (get_or table_sizes f 0) 0 || list_any (same (table f (get_or table_sizes f 0))) tables))
+unfolding tables small_tables large_tables table_sizes
+sizes_listed = tt
 
-member_off : (ts : List Table) (t : Table) (i : ℕ) (is : List ℕ) → T (all_off ts is) → Member t ts i → T (off_filler t is)
-member_off [] t i is h m = absurd m
-member_off (u ∷ ts) t zero is h m = subst (λ x. T (off_filler x is)) m (and_first (off_filler u is) (all_off ts is) h)
-member_off (u ∷ ts) t (suc i) is h m = member_off ts t i is (and_second (off_filler u is) (all_off ts is) h) m
-
-zeros_stay : (w : Words) (t : Table) (vs : List ℕ) → length vs ≤ t.count → (is : List ℕ) → T (off_filler t is) → all_zero (sets w t.first vs) is ≡ all_zero w is
-zeros_stay w t vs l [] h = refl
-zeros_stay w t vs l (i ∷ is) h =
-    ap₂ (λ x y. eqb x 0 && y) (getD_sets_out vs w t.first i (go (leb (suc i) t.first) (leb (t.first + t.count) i) (leb→le (suc i) t.first) (leb→le (t.first + t.count) i) (and_first (leb (suc i) t.first || leb (t.first + t.count) i) (off_filler t is) h)))
-    (zeros_stay w t vs l is (and_second (leb (suc i) t.first || leb (t.first + t.count) i) (off_filler t is) h))
-  where
-    go : (a b : Bool) → (T a → suc i ≤ t.first) → (T b → t.first + t.count ≤ i) → T (a || b) → (i < t.first) ⊎ (t.first + length vs ≤ i)
-    go true b x y h = inl (x tt)
-    go false true x y h = let z : t.first + t.count ≤ i = y tt in inr (omega arith)
-    go false false x y h = absurd h
+pub table_lawful : (w : Words) (t : Table) → in_layout t ≡ true → lawful w ≡ true → descends 32768 (words_of w t) ≡ true
+unfolding lawful
+table_lawful w t h fits =
+    let found = Any-from_list_any (same t) tables (each_table (λ u. list_any (same u) tables) sizes_listed t h) in
+    let there = and_at (all_descend w) (λ u. descends 32768 (words_of w u)) refl (λ _ _. refl) tables found.0 found.1 found.2 (and_parts (all_descend w tables) (all_zero w fillers) fits).0 in
+    subst (λ (u : Table). descends 32768 (words_of w u) ≡ true) (found.3 ∙ sym (same_table t found.1 found.4)) there
 
 pub words_stay_sound : WordsStaySound
 unfolding lawful
-words_stay_sound w t s m sound =
-    let member : (i : ℕ) × Member t tables i = member_in_layout t m in
-    let whole_law : T (all_descend w tables && all_zero w fillers) = true→T (all_descend w tables && all_zero w fillers) sound.fits in
-    let vs : List ℕ = adapted t.count (words_of w t) s in
-    let long : length vs ≤ t.count = short in
-    record {
-      number = length-sets w t.first vs ∙ sound.number;
-      fits =
-          T→true (all_descend (updated w t s) tables && all_zero (updated w t s) fillers)
-          (and_both (all_descend (updated w t s) tables) (all_zero (updated w t s) fillers)
-          (all_descend_test (updated w t s) tables
-          (stays_each w t member.0 s member.1 sound.number (each_descends w tables (and_first (all_descend w tables) (all_zero w fillers) whole_law))))
-          (subst T (sym (zeros_stay w t vs long fillers (member_off tables t member.0 fillers checked_off member.1)))
-          (and_second (all_descend w tables) (all_zero w fillers) whole_law)));
-    }
+words_stay_sound w t s h sound = record {
+  number = length-sets w t.first vs ∙ sound.number;
+  fits = and_from _ _
+      (and_from_places (all_descend after) (λ u. descends 32768 (words_of after u)) refl (λ _ _. refl) tables t
+          (λ i l. each (get_or tables i t) (AllPass-from_list_all (clear t) tables place.1.0 i t l) (and_at (all_descend w) (λ u. descends 32768 (words_of w u)) refl (λ _ _. refl) tables i t l law.0)))
+      (and_from_places (all_zero after) (λ i. eqb (get_or after i 0) 0) refl (λ _ _. refl) fillers 0
+          (λ k l. zero (get_or fillers k 0) (AllPass-from_list_all (off t) fillers place.1.1 k 0 l) (and_at (all_zero w) (λ i. eqb (get_or w i 0) 0) refl (λ _ _. refl) fillers k 0 l law.1)));
+}
   where
-    short : length (adapted t.count (words_of w t) s) ≤ t.count
-    short = rw (length_moved _ s 0 (words_of w t)) (rw length-take (omega arith))
+    vs : List ℕ
+    vs = adapted t.count (words_of w t) s
 
-sizes_small : T (all_below words_in_all (λ f. leb (get_or table_sizes f 0) 16))
-unfolding table_sizes
-sizes_small = tt
+    after : Words
+    after = updated w t s
 
-pub table_most : (t : Table) → in_layout t ≡ true → t.count ≤ 16
-unfolding in_layout
-table_most t h =
-    let test : T (ltb 0 t.count && eqb (get_or table_sizes t.first 0) t.count) = true→T (ltb 0 t.count && eqb (get_or table_sizes t.first 0) t.count) h in
-    let size : get_or table_sizes t.first 0 ≡ t.count = eqb→eq (get_or table_sizes t.first 0) t.count (and_second (ltb 0 t.count) _ test) in
-    omega (arith, size, small (dec_lt t.first words_in_all))
-  where
-    small : Dec (t.first < words_in_all) → get_or table_sizes t.first 0 ≤ 16
-    small (yes l) = leb→le (get_or table_sizes t.first 0) 16 (all_below_at words_in_all (λ f. leb (get_or table_sizes f 0) 16) sizes_small t.first l)
-    small (no l) = let past : get_or table_sizes t.first 0 ≡ 0 = get_or_past table_sizes t.first 0 (omega (arith, sizes_number)) in omega (arith, past)
+    law : (all_descend w tables ≡ true) × (all_zero w fillers ≡ true)
+    law = and_parts (all_descend w tables) (all_zero w fillers) sound.fits
+
+    place : (leb (t.first + t.count) words_in_all ≡ true) × ((list_all (clear t) tables ≡ true) × (list_all (off t) fillers ≡ true))
+    place = let p = and_parts (leb (t.first + t.count) words_in_all) _ (each_table placed sizes_placed t h) in (p.0, and_parts (list_all (clear t) tables) _ p.1)
+
+    fits : t.first + t.count ≤ length w
+    fits = omega (arith, table_inside t h, sound.number)
+
+    long : length vs ≡ t.count
+    long = length_moved _ s 0 (words_of w t) ∙ simp (length-take, length-drop) (omega (arith, fits))
+
+    own : descends 32768 (words_of w t) ≡ true → descends 32768 (words_of after t) ≡ true
+    own d =
+        subst (λ (l : List ℕ). descends 32768 l ≡ true) (sym (ap (λ (x : ℕ). take x (drop t.first after)) (sym long) ∙ sets_there vs w t.first (omega (arith, long, fits))))
+        (descends_test 32768 vs (table_stays_lawful t.count (words_of w t) s (descends_back 32768 (words_of w t) d)))
+
+    each : (u : Table) → clear t u ≡ true → descends 32768 (words_of w u) ≡ true → descends 32768 (words_of after u) ≡ true
+    each u c d = go (or_cases (leb (t.first + t.count) u.first) _ c)
+      where
+        rest : (leb (u.first + u.count) t.first ≡ true) ⊎ (same t u ≡ true) → descends 32768 (words_of after u) ≡ true
+        rest (inl e) = rw (sets_behind vs w u.first u.count t.first (leb-true _ t.first e)) d
+        rest (inr e) = subst (λ (v : Table). descends 32768 (words_of after v) ≡ true) (same_table t u e) (own (subst (λ (v : Table). descends 32768 (words_of w v) ≡ true) (sym (same_table t u e)) d))
+
+        go : (leb (t.first + t.count) u.first ≡ true) ⊎ ((leb (u.first + u.count) t.first || same t u) ≡ true) → descends 32768 (words_of after u) ≡ true
+        go (inl e) = let k : t.first + length vs ≤ u.first = omega (arith, long, leb-true _ u.first e) in rw (sets_before vs w t.first u.first k) d
+        go (inr e) = rest (or_cases (leb (u.first + u.count) t.first) _ e)
+
+    zero : (i : ℕ) → off t i ≡ true → eqb (get_or w i 0) 0 ≡ true → eqb (get_or after i 0) 0 ≡ true
+    zero i c z = go (or_cases (leb (suc i) t.first) _ c)
+      where
+        go : (leb (suc i) t.first ≡ true) ⊎ (leb (t.first + t.count) i ≡ true) → eqb (get_or after i 0) 0 ≡ true
+        go (inl e) = rw (getD_sets_out vs w t.first i (inl (leb-true (suc i) t.first e))) z
+        go (inr e) = rw (getD_sets_out vs w t.first i (inr (omega (arith, long, leb-true _ i e)))) z

@@ -1,65 +1,32 @@
 -- Windows of 4 words and windows of 16 words have no word and no table in common, so that putting one back does not
 -- touch what the other holds, and none of it depends on the order.
 use Rattle.std.proofs.Common.{◌≡◌, ℕ, zero, suc, ◌+◌, ◌<◌, ◌≤◌, Bool, true, false, cond, ◌&&◌, ◌||◌, T, eqb, leb, ◌⊎◌, List, [], ◌∷◌, ◌++◌, length, get_or, take, sym, refl, ap, ◌∙◌, subst, ap₂, inl, inr, arith, le→leb, eqb→eq, leb→le}
-use native.Mathlib.Decide.{dec_le}
+use Rattle.std.proofs.lemmas.Bool.{and_parts, le-leb}
+use Rattle.std.proofs.lemmas.Bool.Decides.{nat_tests}
 use lib.Seq.{sets, length-sets}
 use Rattle.std.proofs.lemmas.List.{length-take}
-use Rattle.cdf.specs.Layout.{words_in_all, tables, small_tables, large_tables, joint_fillers, component_fillers, fillers, descends, all_descend, all_zero, lawful, in_layout, SoundWords}
+use Rattle.cdf.specs.Layout.{words_in_all, tables, small_tables, large_tables, joint_fillers, component_fillers, fillers, descends, all_descend, all_zero, lawful, table_sizes, in_layout, SoundWords}
 use Rattle.cdf.specs.Lists.{from}
 use Rattle.cdf.specs.Windows.{window, taken_window, put_window, small_place, large_place}
-use Rattle.cdf.specs.Words.{Words, Table, words_of, adapted}
+use Rattle.cdf.specs.Words.{Words, Table, table, words_of, adapted}
 use Rattle.cdf.proofs.Adapting.{length_moved}
-use Rattle.cdf.proofs.Booleans.{and_first, and_second, and_assoc, T→true}
-use Rattle.cdf.proofs.Layouts.{Member, member_in_layout}
+use Rattle.cdf.proofs.Booleans.{and_first, and_second, and_assoc, and_true, true→T, T→true}
+use Rattle.cdf.proofs.Layouts.{each_table}
+use Rattle.cdf.proofs.Ranges.{all_below}
 use Rattle.cdf.proofs.Stores.{sets_before, sets_behind, sets_over, sets_own, sets_cross, getD_sets_out}
-
-or_cases : (a b : Bool) → T (a || b) → T a ⊎ T b
-or_cases true b h = inl tt
-or_cases false b h = inr h
-
-and_cases : (a b : Bool) → T (a && b) → T a × T b
-and_cases true b h = (tt, h)
-and_cases false b h = absurd h
 
 abbrev pub Between : ℕ → ℕ → ℕ → Type 0
 Between a f b = (a ≤ f) × (f ≤ b)
 
-between : (a f b : ℕ) → T (leb a f && leb f b) → Between a f b
-between a f b h = (leb→le a f (and_cases (leb a f) (leb f b) h).0, leb→le f b (and_cases (leb a f) (leb f b) h).1)
+small_range : (f : ℕ) → T (small_place f) → (f ≤ 18) ⊎ ((f ≡ 302) ⊎ (Between 318 f 354 ⊎ Between 374 f 410))
+small_range f h = let e = T→true (small_place f) h in grind (arith, nat_tests)
 
-pub small_range : (f : ℕ) → T (small_place f) → (f ≤ 18) ⊎ ((f ≡ 302) ⊎ (Between 318 f 354 ⊎ Between 374 f 410))
-small_range f h = one (or_cases (leb f 18) _ h)
-  where
-    three : T (leb 318 f && leb f 354) ⊎ T (leb 374 f && leb f 410) → Between 318 f 354 ⊎ Between 374 f 410
-    three (inl h) = inl (between 318 f 354 h)
-    three (inr h) = inr (between 374 f 410 h)
-
-    two : T (eqb f 302) ⊎ T ((leb 318 f && leb f 354) || (leb 374 f && leb f 410)) → (f ≡ 302) ⊎ (Between 318 f 354 ⊎ Between 374 f 410)
-    two (inl h) = inl (eqb→eq f 302 h)
-    two (inr h) = inr (three (or_cases (leb 318 f && leb f 354) (leb 374 f && leb f 410) h))
-
-    one : T (leb f 18) ⊎ T (eqb f 302 || ((leb 318 f && leb f 354) || (leb 374 f && leb f 410))) → (f ≤ 18) ⊎ ((f ≡ 302) ⊎ (Between 318 f 354 ⊎ Between 374 f 410))
-    one (inl h) = inl (leb→le f 18 h)
-    one (inr h) = inr (two (or_cases (eqb f 302) _ h))
-
-pub large_range : (f : ℕ) → T (large_place f) → Between 22 f 286 ⊎ ((f ≡ 358) ⊎ (f ≡ 414))
-large_range f h = one (or_cases (leb 22 f && leb f 286) _ h)
-  where
-    two : T (eqb f 358) ⊎ T (eqb f 414) → (f ≡ 358) ⊎ (f ≡ 414)
-    two (inl h) = inl (eqb→eq f 358 h)
-    two (inr h) = inr (eqb→eq f 414 h)
-
-    one : T (leb 22 f && leb f 286) ⊎ T (eqb f 358 || eqb f 414) → Between 22 f 286 ⊎ ((f ≡ 358) ⊎ (f ≡ 414))
-    one (inl h) = inl (between 22 f 286 h)
-    one (inr h) = inr (two (or_cases (eqb f 358) (eqb f 414) h))
+large_range : (f : ℕ) → T (large_place f) → Between 22 f 286 ⊎ ((f ≡ 358) ⊎ (f ≡ 414))
+large_range f h = let e = T→true (large_place f) h in grind (arith, nat_tests)
 
 -- windows of the two kinds have no word in common
 pub apart : (f g : ℕ) → T (small_place f) → T (large_place g) → (f + 4 ≤ g) ⊎ (g + 16 ≤ f)
-apart f g h k = go (dec_le (f + 4) g) (small_range f h) (large_range g k)
-  where
-    go : Dec (f + 4 ≤ g) → (f ≤ 18) ⊎ ((f ≡ 302) ⊎ (Between 318 f 354 ⊎ Between 374 f 410)) → Between 22 g 286 ⊎ ((g ≡ 358) ⊎ (g ≡ 414)) → (f + 4 ≤ g) ⊎ (g + 16 ≤ f)
-    go (yes p) s l = inl p
-    go (no p) s l = inr (omega arith)
+apart f g h k = let r = small_range f h in let q = large_range g k in grind arith
 
 -- a window of one kind does not touch the tables of the other
 abbrev all_placed : (ℕ → Bool) → ℕ → List Table → Bool
@@ -88,32 +55,17 @@ descend_apart place n w g vs f (t ∷ ts) h =
     (words_apart w t g vs (f t (and_first (place t.first) (leb t.count n) here) (leb→le t.count n (and_second (place t.first) (leb t.count n) here))))
     (descend_apart place n w g vs f ts (and_second (place t.first && leb t.count n) (all_placed place n ts) h))
 
-pub small_untouched : (w : Words) (g : ℕ) (vs : List ℕ) → T (large_place g) → length vs ≤ 16 → all_descend (sets w g vs) small_tables ≡ all_descend w small_tables
-small_untouched w g vs h k = descend_apart small_place 4 w g vs (λ t p l. go t l (apart t.first g p h)) small_tables small_placed
-  where
-    go : (t : Table) → t.count ≤ 4 → (t.first + 4 ≤ g) ⊎ (g + 16 ≤ t.first) → (t.first + t.count ≤ g) ⊎ (g + length vs ≤ t.first)
-    go t l (inl x) = inl (omega arith)
-    go t l (inr x) = inr (omega arith)
+small_untouched : (w : Words) (g : ℕ) (vs : List ℕ) → T (large_place g) → length vs ≤ 16 → all_descend (sets w g vs) small_tables ≡ all_descend w small_tables
+small_untouched w g vs h k = descend_apart small_place 4 w g vs (λ t p l. let a = apart t.first g p h in grind arith) small_tables small_placed
 
-pub large_untouched : (w : Words) (f : ℕ) (us : List ℕ) → T (small_place f) → length us ≤ 4 → all_descend (sets w f us) large_tables ≡ all_descend w large_tables
-large_untouched w f us h k = descend_apart large_place 16 w f us (λ t p l. go t l (apart f t.first h p)) large_tables large_placed
-  where
-    go : (t : Table) → t.count ≤ 16 → (f + 4 ≤ t.first) ⊎ (t.first + 16 ≤ f) → (t.first + t.count ≤ f) ⊎ (f + length us ≤ t.first)
-    go t l (inl x) = inr (omega arith)
-    go t l (inr x) = inl (omega arith)
+large_untouched : (w : Words) (f : ℕ) (us : List ℕ) → T (small_place f) → length us ≤ 4 → all_descend (sets w f us) large_tables ≡ all_descend w large_tables
+large_untouched w f us h k = descend_apart large_place 16 w f us (λ t p l. let a = apart f t.first h p in grind arith) large_tables large_placed
 
 zeros_apart : (n a : ℕ) (w : Words) (f : ℕ) (vs : List ℕ) → (a + n ≤ f) ⊎ (f + length vs ≤ a) → all_zero (sets w f vs) (from a n) ≡ all_zero w (from a n)
 zeros_apart zero a w f vs h = refl
 zeros_apart (suc n) a w f vs h =
-    ap₂ (λ x y. eqb x 0 && y) (getD_sets_out vs w f a (here h)) (zeros_apart n (suc a) w f vs (next h))
-  where
-    here : (a + suc n ≤ f) ⊎ (f + length vs ≤ a) → (a < f) ⊎ (f + length vs ≤ a)
-    here (inl l) = inl (omega arith)
-    here (inr l) = inr l
-
-    next : (a + suc n ≤ f) ⊎ (f + length vs ≤ a) → (suc a + n ≤ f) ⊎ (f + length vs ≤ suc a)
-    next (inl l) = inl (omega arith)
-    next (inr l) = inr (omega arith)
+    let here : (a < f) ⊎ (f + length vs ≤ a) = grind arith in
+    ap₂ (λ x y. eqb x 0 && y) (getD_sets_out vs w f a here) (zeros_apart n (suc a) w f vs (grind arith))
 
 -- lawful words, by the two regions: the tables of up to 4 symbols with the words behind the joints, and the others
 low : Words → Bool
@@ -142,82 +94,48 @@ two_parts w =
     swap true false false d = refl
     swap true true c d = refl
 
-abbrev Off : ℕ → ℕ → ℕ → ℕ → Type 0
-Off a n f m = (a + n ≤ f) ⊎ (f + m ≤ a)
-
 high_untouched : (w : Words) (f : ℕ) (us : List ℕ) → T (small_place f) → length us ≤ 4 → high (sets w f us) ≡ high w
 unfolding high
 high_untouched w f us h k =
+    let r = small_range f h in
     ap₂ (λ x y. x && y) (large_untouched w f us h k)
     (zero_append (sets w f us) (from 369 5) (from 425 5)
-    ∙ ap₂ (λ x y. x && y) (zeros_apart 5 369 w f us (off 369 (small_range f h) (dec_le 374 f) (omega arith) (omega arith) (omega arith))) (zeros_apart 5 425 w f us (inr (last (small_range f h))))
+    ∙ ap₂ (λ x y. x && y) (zeros_apart 5 369 w f us (grind arith)) (zeros_apart 5 425 w f us (inr (omega arith)))
     ∙ sym (zero_append w (from 369 5) (from 425 5)))
-  where
-    off : (a : ℕ) → (f ≤ 18) ⊎ ((f ≡ 302) ⊎ (Between 318 f 354 ⊎ Between 374 f 410)) → Dec (374 ≤ f) → a ≡ 369 → a + 5 ≡ 374 → 0 ≤ f → Off a 5 f (length us)
-    off a r (yes l) e e' z = inl (omega arith)
-    off a r (no l) e e' z = inr (omega arith)
-
-    last : (f ≤ 18) ⊎ ((f ≡ 302) ⊎ (Between 318 f 354 ⊎ Between 374 f 410)) → f + length us ≤ 425
-    last r = omega arith
 
 low_untouched : (w : Words) (g : ℕ) (vs : List ℕ) → T (large_place g) → length vs ≤ 16 → low (sets w g vs) ≡ low w
 unfolding low
-low_untouched w g vs h k = ap₂ (λ x y. x && y) (small_untouched w g vs h k) (zeros_apart 12 306 w g vs (off (large_range g h) (dec_le 318 g)))
-  where
-    off : Between 22 g 286 ⊎ ((g ≡ 358) ⊎ (g ≡ 414)) → Dec (318 ≤ g) → Off 306 12 g (length vs)
-    off r (yes l) = inl (omega arith)
-    off r (no l) = inr (omega arith)
+low_untouched w g vs h k = let r = large_range g h in ap₂ (λ x y. x && y) (small_untouched w g vs h k) (zeros_apart 12 306 w g vs (grind arith))
 
 -- a put-back keeps words sound
 cond_sound : (b : Bool) (v w : Words) → (b ≡ true → SoundWords v) → SoundWords w → SoundWords (cond b v w)
 cond_sound true v w f s = f refl
 cond_sound false v w f s = s
 
-and_right_true : (a b : Bool) → (a && b) ≡ true → b ≡ true
-and_right_true true b e = e
-and_right_true false b e = absurd (subst T (sym e) tt)
-
 pub put_sound : (f : ℕ) (us : List ℕ) (w : Words) → SoundWords w → SoundWords (put_window f us w)
 put_sound f us w s =
     cond_sound (leb (f + length us) words_in_all && lawful (sets w f us)) (sets w f us) w
-    (λ e. record { number = length-sets w f us ∙ s.number; fits = and_right_true (leb (f + length us) words_in_all) (lawful (sets w f us)) e }) s
+    (λ e. record { number = length-sets w f us ∙ s.number; fits = (and_parts (leb (f + length us) words_in_all) (lawful (sets w f us)) e).1 }) s
 
 -- the test of a window in its region
-and_true_right : (a b : Bool) → b ≡ true → (a && b) ≡ a
-and_true_right true b e = e
-and_true_right false b e = refl
-
-parts_low : (w : Words) → SoundWords w → low w ≡ true
-parts_low w s = left (low w) (high w) (sym (two_parts w) ∙ s.fits)
-  where
-    left : (a b : Bool) → (a && b) ≡ true → a ≡ true
-    left true b e = refl
-    left false b e = e
-
-parts_high : (w : Words) → SoundWords w → high w ≡ true
-parts_high w s = and_right_true (low w) (high w) (sym (two_parts w) ∙ s.fits)
+parts : (w : Words) → SoundWords w → (low w ≡ true) × (high w ≡ true)
+parts w s = and_parts (low w) (high w) (sym (two_parts w) ∙ s.fits)
 
 pub inside_small : (f : ℕ) (us : List ℕ) → T (small_place f) → length us ≤ 4 → leb (f + length us) words_in_all ≡ true
-inside_small f us h k = T→true _ (le→leb (f + length us) words_in_all (go (small_range f h)))
-  where
-    go : (f ≤ 18) ⊎ ((f ≡ 302) ⊎ (Between 318 f 354 ⊎ Between 374 f 410)) → f + length us ≤ words_in_all
-    go r = omega arith
+inside_small f us h k = let r = small_range f h in le-leb _ words_in_all (omega arith)
 
 pub inside_large : (g : ℕ) (vs : List ℕ) → T (large_place g) → length vs ≤ 16 → leb (g + length vs) words_in_all ≡ true
-inside_large g vs h k = T→true _ (le→leb (g + length vs) words_in_all (go (large_range g h)))
-  where
-    go : Between 22 g 286 ⊎ ((g ≡ 358) ⊎ (g ≡ 414)) → g + length vs ≤ words_in_all
-    go r = omega arith
+inside_large g vs h k = let r = large_range g h in le-leb _ words_in_all (omega arith)
 
 taken_low : (w : Words) (f : ℕ) (us : List ℕ) → SoundWords w → T (small_place f) → length us ≤ 4 → taken_window f us w ≡ low (sets w f us)
 taken_low w f us s h k =
     ap (λ a. a && lawful (sets w f us)) (inside_small f us h k) ∙ two_parts (sets w f us)
-    ∙ and_true_right (low (sets w f us)) (high (sets w f us)) (high_untouched w f us h k ∙ parts_high w s)
+    ∙ ap (λ b. low (sets w f us) && b) (high_untouched w f us h k ∙ (parts w s).1) ∙ and_true (low (sets w f us))
 
 taken_high : (w : Words) (g : ℕ) (vs : List ℕ) → SoundWords w → T (large_place g) → length vs ≤ 16 → taken_window g vs w ≡ high (sets w g vs)
 taken_high w g vs s h k =
     ap (λ a. a && lawful (sets w g vs)) (inside_large g vs h k) ∙ two_parts (sets w g vs)
-    ∙ ap (λ a. a && high (sets w g vs)) (low_untouched w g vs h k ∙ parts_low w s)
+    ∙ ap (λ a. a && high (sets w g vs)) (low_untouched w g vs h k ∙ (parts w s).0)
 
 put_low : (w : Words) (f : ℕ) (us : List ℕ) → SoundWords w → T (small_place f) → length us ≤ 4 → put_window f us w ≡ cond (low (sets w f us)) (sets w f us) w
 put_low w f us s h k = ap (λ b. cond b (sets w f us) w) (taken_low w f us s h k)
@@ -264,12 +182,8 @@ put_commute w f g us vs s h k h' k' =
     second : Words
     second = sets w g vs
 
-    both : (f + 4 ≤ g) ⊎ (g + 16 ≤ f) → sets first g vs ≡ sets second f us
-    both (inl l) = sets_cross us vs w f g (omega arith)
-    both (inr l) = sym (sets_cross vs us w g f (omega arith))
-
     e : sets first g vs ≡ sets second f us
-    e = both (apart f g h h')
+    e = crossed w f g us vs h k h' k'
 
     inner : sets first g vs ≡ sets second f us → low (sets second f us) ≡ low first → high (sets first g vs) ≡ high second → (p q : Bool) → low first ≡ p → high second ≡ q
         → cond (high (sets (cond p first w) g vs)) (sets (cond p first w) g vs) (cond p first w) ≡ cond (low (sets (cond q second w) f us)) (sets (cond q second w) f us) (cond q second w)
@@ -283,27 +197,16 @@ abbrev placed_by : Bool → Table → Bool
 placed_by true t = small_place t.first
 placed_by false t = large_place t.first && leb t.count 16
 
-abbrev all_at_place : List Table → Bool
-all_at_place [] = true
-all_at_place (t ∷ ts) = placed_by (leb t.count 4) t && all_at_place ts
-
-checked_places : T (all_at_place tables)
-unfolding tables small_tables large_tables
-checked_places = tt
-
-member_at_place : (ts : List Table) (t : Table) (i : ℕ) → T (all_at_place ts) → Member t ts i → T (placed_by (leb t.count 4) t)
-member_at_place [] t i h m = absurd m
-member_at_place (u ∷ ts) t zero h m = subst (λ x. T (placed_by (leb x.count 4) x)) m (and_first (placed_by (leb u.count 4) u) (all_at_place ts) h)
-member_at_place (u ∷ ts) t (suc i) h m = member_at_place ts t i (and_second (placed_by (leb u.count 4) u) (all_at_place ts) h) m
+sizes_placed_by : T (all_below words_in_all (λ f. eqb (get_or table_sizes f 0) 0 || placed_by (leb (get_or table_sizes f 0) 4) (table f (get_or table_sizes f 0))))
+unfolding table_sizes
+sizes_placed_by = tt
 
 abbrev pub PlaceOf : Bool → Table → Type 0
 PlaceOf true t = T (small_place t.first)
 PlaceOf false t = T (large_place t.first) × (t.count ≤ 16)
 
 pub table_place : (t : Table) → in_layout t ≡ true → PlaceOf (leb t.count 4) t
-table_place t h =
-    let member : (i : ℕ) × Member t tables i = member_in_layout t h in
-    go (leb t.count 4) (member_at_place tables t member.0 checked_places member.1)
+table_place t h = go (leb t.count 4) (true→T _ (each_table (λ u. placed_by (leb u.count 4) u) sizes_placed_by t h))
   where
     go : (b : Bool) → T (placed_by b t) → PlaceOf b t
     go true h = h

@@ -56,11 +56,7 @@ sets_there vs w f h =
 
 pub getD_sets_out : (vs w : List ℕ) (f i : ℕ) → (i < f) ⊎ (f + length vs ≤ i) → get_or (sets w f vs) i 0 ≡ get_or w i 0
 getD_sets_out [] w f i h = refl
-getD_sets_out (v ∷ vs) w f i h = getD_sets_out vs (set w f v) (suc f) i (next h) ∙ get_or-set_other w f i v 0 (omega arith)
-  where
-    next : (i < f) ⊎ (f + suc (length vs) ≤ i) → (i < suc f) ⊎ (suc f + length vs ≤ i)
-    next (inl l) = inl (omega arith)
-    next (inr l) = inr (omega arith)
+getD_sets_out (v ∷ vs) w f i h = getD_sets_out vs (set w f v) (suc f) i (grind arith) ∙ get_or-set_other w f i v 0 (omega arith)
 
 -- as a splice
 pub sets_splice : (w vs : List ℕ) (f : ℕ) → f + length vs ≤ length w → sets w f vs ≡ take f w ++ (vs ++ drop (f + length vs) w)

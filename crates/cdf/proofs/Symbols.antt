@@ -35,9 +35,3 @@ part_updated w first n s k ys number h e adapts =
 
     tail : drop k (drop first w) ≡ drop (first + length ys) w
     tail = drop-drop k first w ∙ (let p : first + k ≡ first + length ys = omega (arith, e, count) in ap (λ (j : ℕ). drop j w) p)
-
-pub part_entry : (w : Words) (first n s k : ℕ) (e : Entry) → length w ≡ words_in_all → in_layout (table first n) ≡ true → k ≡ n
-    → e ≡ entry_at (length (mid_of first k w)) (mid_of first k w) s → e ≡ entry_at n (words_of w (table first n)) s
-part_entry w first n s k e number h same is =
-    is ∙ ap (λ (j : ℕ). entry_at (length (take j (drop first w))) (take j (drop first w)) s) same
-    ∙ ap (λ (j : ℕ). entry_at j (words_of w (table first n)) s) (length_table w (table first n) h number)

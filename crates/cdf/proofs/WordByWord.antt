@@ -1,9 +1,14 @@
 -- Words are lawful exactly where each of them keeps to its limit.
-use Rattle.std.proofs.Common.{◌≡◌, ℕ, zero, suc, ◌+◌, ◌-◌, ◌≤◌, Bool, true, false, ◌&&◌, ◌||◌, T, eqb, ltb, leb, List, [], ◌∷◌, ◌++◌, length, get_or, take, drop, sym, refl, ap, ◌∙◌, subst, ap₂, arith, le→leb, eqb→eq, ltb→lt, leb→le, drop-cons}
+use Rattle.std.proofs.Common.{◌≡◌, ℕ, map, zero, suc, ◌+◌, ◌-◌, ◌<◌, ◌≤◌, Bool, true, false, ◌&&◌, ◌||◌, T, eqb, ltb, leb, List, [], ◌∷◌, ◌++◌, length, get_or, take, drop, sym, refl, ap, ◌∙◌, subst, ap₂, arith, le→leb, eqb→eq, ltb→lt, leb→le, drop-cons}
+use Rattle.std.specs.List.{list_all, list_any}
+use Rattle.std.proofs.lemmas.Bool.{ltb-true, leb-true, and_parts}
+use Rattle.std.proofs.lemmas.Bool.Decides.{nat_tests}
+use Rattle.std.proofs.lemmas.List.Folds.{Any-from_list_any, list_all-append}
+use Rattle.std.proofs.lemmas.List.Sums.{AllPass-from_list_all, list_all-from_AllPass}
 use Rattle.cdf.specs.Layout.{words_in_all, tables, small_tables, large_tables, fillers, descends, all_descend, all_zero, lawful}
 use Rattle.cdf.specs.Limits.{as_before, limits, keeps_to, word_before, fits_at, all_from, LawfulByLimits}
 use Rattle.cdf.specs.Words.{Words, Table, words_of}
-use Rattle.cdf.proofs.Booleans.{and_first, and_second, and_both, and_true, and_assoc, same_test}
+use Rattle.cdf.proofs.Booleans.{and_first, and_second, and_true, true→T, T→true, same_test}
 use Rattle.cdf.proofs.Runs.{all_at, all_each}
 
 -- a table's test, from word k on
@@ -69,83 +74,64 @@ table_tested w t l h = tested_descends t.count f w 32768 fits ∙ head t.count (
 
 -- pieces of the words: where they begin, and how long they are
 abbrev pieces_of : List Table → List (ℕ × ℕ)
-pieces_of [] = []
-pieces_of (t ∷ ts) = (t.first, t.count) ∷ pieces_of ts
-
-abbrev all_in : (ℕ → Bool) → List (ℕ × ℕ) → Bool
-all_in f [] = true
-all_in f (p ∷ ps) = all_from f p.0 p.1 && all_in f ps
-
-abbrev all_limited : List Table → Bool
-all_limited [] = true
-all_limited (t ∷ ts) = limited t && all_limited ts
-
-tables_tested : (w : Words) → length w ≡ words_in_all → (ts : List Table) → T (all_limited ts) → all_descend w ts ≡ all_in (fits_at w) (pieces_of ts)
-tables_tested w l [] h = refl
-tables_tested w l (t ∷ ts) h = ap₂ (λ a b. a && b) (table_tested w t l (and_first (limited t) (all_limited ts) h)) (tables_tested w l ts (and_second (limited t) (all_limited ts) h))
+pieces_of = map (λ t. (t.first, t.count))
 
 abbrev pieces_at : List ℕ → List (ℕ × ℕ)
-pieces_at [] = []
-pieces_at (i ∷ is) = (i, 1) ∷ pieces_at is
+pieces_at = map (λ i. (i, 1))
 
-abbrev all_fillers : List ℕ → Bool
-all_fillers [] = true
-all_fillers (i ∷ is) = eqb (get_or limits i 0) 0 && all_fillers is
+abbrev all_in : (ℕ → Bool) → List (ℕ × ℕ) → Bool
+all_in f = list_all (λ p. all_from f p.0 p.1)
+
+tables_tested : (w : Words) → length w ≡ words_in_all → (ts : List Table) → T (list_all limited ts) → all_descend w ts ≡ all_in (fits_at w) (pieces_of ts)
+tables_tested w l [] h = refl
+tables_tested w l (t ∷ ts) h = ap₂ (λ a b. a && b) (table_tested w t l (and_first (limited t) (list_all limited ts) h)) (tables_tested w l ts (and_second (limited t) (list_all limited ts) h))
+
+abbrev filler : ℕ → Bool
+filler i = eqb (get_or limits i 0) 0
 
 zero_test : (n : ℕ) → eqb n 0 ≡ leb n 0
-zero_test n = same_test (eqb n 0) (leb n 0) (λ h. let e : n ≡ 0 = eqb→eq n 0 h in le→leb n 0 (omega arith)) (λ h. let e : n ≤ 0 = leb→le n 0 h in let z : n ≡ 0 = omega arith in subst (λ m. T (eqb m 0)) (sym z) tt)
+zero_test n = grind (arith, nat_tests)
 
-fillers_tested : (w : Words) (is : List ℕ) → T (all_fillers is) → all_zero w is ≡ all_in (fits_at w) (pieces_at is)
+fillers_tested : (w : Words) (is : List ℕ) → T (list_all filler is) → all_zero w is ≡ all_in (fits_at w) (pieces_at is)
 fillers_tested w [] h = refl
 fillers_tested w (i ∷ is) h =
-    ap₂ (λ a b. a && b) (zero_test (get_or w i 0) ∙ sym (and_true (fits_at w i) ∙ at_limit w i 0 (and_first (eqb (get_or limits i 0) 0) (all_fillers is) h)))
-    (fillers_tested w is (and_second (eqb (get_or limits i 0) 0) (all_fillers is) h))
+    ap₂ (λ a b. a && b) (zero_test (get_or w i 0) ∙ sym (and_true (fits_at w i) ∙ at_limit w i 0 (and_first (filler i) (list_all filler is) h)))
+    (fillers_tested w is (and_second (filler i) (list_all filler is) h))
 
 -- all pieces together are all words
-abbrev holds : ℕ → List (ℕ × ℕ) → Bool
-holds k [] = false
-holds k (p ∷ ps) = (leb p.0 k && ltb k (p.0 + p.1)) || holds k ps
-
-abbrev within : List (ℕ × ℕ) → Bool
-within [] = true
-within (p ∷ ps) = leb (p.0 + p.1) words_in_all && within ps
-
-piece_at : (f : ℕ → Bool) (ps : List (ℕ × ℕ)) (k : ℕ) → T (all_in f ps) → T (holds k ps) → T (f k)
-piece_at f [] k h i = absurd i
-piece_at f (p ∷ ps) k h i = go (leb p.0 k && ltb k (p.0 + p.1)) (λ x. x) i (piece_at f ps k (and_second (all_from f p.0 p.1) (all_in f ps) h))
-  where
-    go : (b : Bool) → (T b → T (leb p.0 k && ltb k (p.0 + p.1))) → T (b || holds k ps) → (T (holds k ps) → T (f k)) → T (f k)
-    go true x i rec =
-        all_at f p.1 p.0 (and_first (all_from f p.0 p.1) (all_in f ps) h) k (leb→le p.0 k (and_first (leb p.0 k) _ (x tt))) (ltb→lt k (p.0 + p.1) (and_second (leb p.0 k) _ (x tt)))
-    go false x i rec = rec i
-
-pieces_each : (f : ℕ → Bool) (ps : List (ℕ × ℕ)) → T (within ps) → T (all_from f 0 words_in_all) → T (all_in f ps)
-pieces_each f [] h a = tt
-pieces_each f (p ∷ ps) h a =
-    and_both (all_from f p.0 p.1) (all_in f ps)
-    (all_each f p.1 p.0 (λ i x y. let m : p.0 + p.1 ≤ words_in_all = leb→le (p.0 + p.1) words_in_all (and_first (leb (p.0 + p.1) words_in_all) (within ps) h) in all_at f words_in_all 0 a i (omega arith) (omega arith)))
-    (pieces_each f ps (and_second (leb (p.0 + p.1) words_in_all) (within ps) h) a)
-
 abbrev pieces : List (ℕ × ℕ)
 pieces = pieces_of tables ++ pieces_at fillers
 
-append_in : (f : ℕ → Bool) (ps qs : List (ℕ × ℕ)) → all_in f (ps ++ qs) ≡ (all_in f ps && all_in f qs)
-append_in f [] qs = refl
-append_in f (p ∷ ps) qs = ap (λ x. all_from f p.0 p.1 && x) (append_in f ps qs) ∙ and_assoc (all_from f p.0 p.1) (all_in f ps) (all_in f qs)
+abbrev holds : ℕ → ℕ × ℕ → Bool
+holds k p = leb p.0 k && ltb k (p.0 + p.1)
 
-covered : T (all_from (λ k. holds k pieces) 0 words_in_all)
+covered : T (all_from (λ k. list_any (holds k) pieces) 0 words_in_all)
 unfolding tables small_tables large_tables fillers
 covered = tt
 
-inside : T (within pieces)
+inside : list_all (λ p. leb (p.0 + p.1) words_in_all) pieces ≡ true
 unfolding tables small_tables large_tables fillers
-inside = tt
+inside = refl
 
-tables_limited : T (all_limited tables)
+piece_at : (f : ℕ → Bool) (k : ℕ) → k < words_in_all → T (all_in f pieces) → T (f k)
+piece_at f k l h =
+    let found = Any-from_list_any (holds k) pieces (T→true _ (all_at (λ k. list_any (holds k) pieces) words_in_all 0 covered k (omega arith) (omega arith))) in
+    let p = found.1 in
+    let bounds = and_parts (leb p.0 k) (ltb k (p.0 + p.1)) found.4 in
+    let all = AllPass-from_list_all (λ p. all_from f p.0 p.1) pieces (T→true _ h) found.0 p found.2 in
+    all_at f p.1 p.0 (true→T _ (rw found.3 at all)) k (leb-true p.0 k bounds.0) (ltb-true k (p.0 + p.1) bounds.1)
+
+pieces_each : (f : ℕ → Bool) → T (all_from f 0 words_in_all) → T (all_in f pieces)
+pieces_each f a =
+    true→T _ (list_all-from_AllPass (λ p. all_from f p.0 p.1) pieces
+        (λ k d l. let p = get_or pieces k d in let m : p.0 + p.1 ≤ words_in_all = leb-true (p.0 + p.1) words_in_all (AllPass-from_list_all (λ p. leb (p.0 + p.1) words_in_all) pieces inside k d l) in
+            T→true _ (all_each f p.1 p.0 (λ i x y. all_at f words_in_all 0 a i (omega arith) (omega arith)))))
+
+tables_limited : T (list_all limited tables)
 unfolding tables small_tables large_tables limits limited later
 tables_limited = tt
 
-fillers_limited : T (all_fillers fillers)
+fillers_limited : T (list_all filler fillers)
 unfolding fillers limits
 fillers_limited = tt
 
@@ -153,7 +139,7 @@ pub lawful_by_limits : LawfulByLimits
 unfolding lawful
 lawful_by_limits w l =
     ap₂ (λ a b. a && b) (tables_tested w l tables tables_limited) (fillers_tested w fillers fillers_limited)
-    ∙ sym (append_in (fits_at w) (pieces_of tables) (pieces_at fillers))
+    ∙ sym (list_all-append (λ p. all_from (fits_at w) p.0 p.1) (pieces_of tables) (pieces_at fillers))
     ∙ same_test (all_in (fits_at w) pieces) (all_from (fits_at w) 0 words_in_all)
-    (λ h. all_each (fits_at w) words_in_all 0 (λ i a b. piece_at (fits_at w) pieces i h (all_at (λ k. holds k pieces) words_in_all 0 covered i a b)))
-    (pieces_each (fits_at w) pieces inside)
+    (λ h. all_each (fits_at w) words_in_all 0 (λ i a b. piece_at (fits_at w) i (omega arith) h))
+    (pieces_each (fits_at w))

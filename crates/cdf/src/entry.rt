@@ -2,7 +2,7 @@ ghost use Rattle.std.specs.Prelude.{◌≡◌};
 ghost use Rattle.cdf.specs.Entries.{is_entry};
 
 /// A coded symbol: symbol `s` of `n`, with the values of its table before and behind it.
-#[derive(Clone, Copy, PartialEq, Debug)]
+#[derive(Clone, Copy, PartialEq, Eq, Debug)]
 pub struct Entry {
     pub s: u8,
     pub n: u8,
@@ -15,6 +15,6 @@ impl Entry {
     pub fn is_entry(self) -> bool
         ensures { result ≡ is_entry self }
     {
-        self.s < self.n && self.n >= 2 && self.n <= 16 && self.fh <= self.fl && self.fl <= 32768
+        self.s < self.n && (2..=16).contains(&self.n) && self.fh <= self.fl && self.fl <= 32768
     }
 }

@@ -2,7 +2,8 @@ ghost use Rattle.std.specs.Prelude.{◌≡◌, ◌+◌, ◌≤◌, true, slice_i
 ghost use Rattle.cdf.specs.Layout.{in_layout, table_sizes};
 ghost use Rattle.cdf.specs.Words.{table};
 
-// For each word the number of symbols of the table that begins there, and 0 where none begins.
+// For each word the number of symbols of the table that begins there, and 0 where none begins: a look-up
+// for each symbol, where a list of the tables would be searched.
 const TABLE_SIZES: [u8; 430] = [
     2, 0, 2, 0, 2, 0, 4, 0, 0, 0, 4, 0, 0, 0, 4, 0, 0, 0, 4, 0, 0, 0, 8, 0, 0, 0, 0, 0, 0, 0, 8, 0,
     0, 0, 0, 0, 0, 0, 8, 0, 0, 0, 0, 0, 0, 0, 8, 0, 0, 0, 0, 0, 0, 0, 8, 0, 0, 0, 0, 0, 0, 0, 8, 0,
@@ -29,7 +30,7 @@ fn table_size(first: usize) -> usize
 // Whether the layout has a table of `n` symbols at word `first`.
 pub(crate) fn has_table(first: usize, n: usize) -> bool
     ensures value { result ≡ in_layout (table first n) }
-    ensures inside { result ≡ true → (first + n ≤ 430) × (n ≤ 16) }
+    ensures inside { result ≡ true → first + n ≤ 430 }
 {
     n > 0 && table_size(first) == n
 }

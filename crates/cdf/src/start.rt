@@ -2,6 +2,8 @@ ghost use Rattle.std.specs.Prelude.{◌≡◌, true};
 ghost use Rattle.cdf.specs.Layout.{lawful};
 ghost use Rattle.cdf.specs.Start.{start_words};
 
+// The words at the start of a tile, written out: they are copied, and a loop over the tables would compute them anew for
+// each tile.
 const START: [u16; 430] = [
     16384, 0, 16384, 0, 16384, 0, 24576, 16384, 8192, 0, 24576, 16384, 8192, 0, 24576, 16384, 8192,
     0, 24576, 16384, 8192, 0, 28672, 24576, 20480, 16384, 12288, 8192, 4096, 0, 28672, 24576,

@@ -1,9 +1,11 @@
-ghost use Rattle.std.specs.Prelude.{◌≡◌, ◌≤◌, true, length, IfSome};
+ghost use Rattle.std.specs.Prelude.{◌≡◌, ◌+◌, ◌≤◌, true, length, IfSome, is_some};
 ghost use Rattle.cdf.specs.Entries.{is_entry, edge_symbols, entry_in};
-ghost use Rattle.cdf.specs.Layout.{descends};
-ghost use Rattle.cdf.specs.Words.{width_of, widths};
+ghost use Rattle.cdf.specs.Layout.{in_layout, descends};
+ghost use Rattle.cdf.specs.Words.{table, words_of, width_of, widths};
 
 use crate::entry::Entry;
+use crate::layout::has_table;
+use crate::tables::Tables;
 use crate::tables::edges::Edge;
 
 // The words of one table: values that do not rise, and then the counter.
@@ -48,5 +50,21 @@ impl Cdf<'_> {
         ensures most { result ≤ 32768 }
     {
         edge.symbols().iter().map(|&s| self.width(s)).sum()
+    }
+}
+
+impl Tables {
+    // The table of `n` symbols at word `first`, where the layout has it.
+    pub(super) fn cdf(&self, first: usize, n: usize) -> Option<Cdf<'_>>
+        ensures listed { is_some result ≡ in_layout (table first n) }
+        ensures words { IfSome result (λ c. c.words.now ≡ words_of self.now.words (table first n)) }
+        ensures inside { IfSome result (λ c. (first + n ≤ 430) × (length c.words.now ≡ n)) }
+    {
+        if !has_table(first, n) {
+            return None;
+        }
+        Some(Cdf {
+            words: &self.words[first..first + n],
+        })
     }
 }

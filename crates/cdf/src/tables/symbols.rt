@@ -1,15 +1,13 @@
-ghost use Rattle.std.specs.Prelude.{◌≡◌, ◌+◌, ◌≤◌, true, ◌&&◌, length, IfSome, is_some, if◌then◌else◌, nat_lt};
+ghost use Rattle.std.specs.Prelude.{◌≡◌, true, ◌&&◌, IfSome, if◌then◌else◌, nat_lt};
 ghost use Rattle.cdf.specs.Entries.{is_entry, entry_if};
 ghost use Rattle.cdf.specs.Layout.{in_layout};
 ghost use Rattle.cdf.specs.Start.{start_words};
-ghost use Rattle.cdf.specs.Words.{table, words_of, updated};
+ghost use Rattle.cdf.specs.Words.{table, updated};
 
 use crate::adapt::update_cdf;
 use crate::entry::Entry;
-use crate::layout::has_table;
 use crate::start::start_words;
 use crate::tables::Tables;
-use crate::tables::cdf::Cdf;
 
 impl Tables {
     /// The tables at the start of a tile.
@@ -21,24 +19,11 @@ impl Tables {
         }
     }
 
+    /// The 430 words.
     pub fn words(&self) -> &[u16; 430]
         ensures { result.now ≡ self.now.words }
     {
         &self.words
-    }
-
-    // The table of `n` symbols at word `first`, where the layout has it.
-    pub(super) fn cdf(&self, first: usize, n: usize) -> Option<Cdf<'_>>
-        ensures listed { is_some result ≡ in_layout (table first n) }
-        ensures words { IfSome result (λ c. c.words.now ≡ words_of self.now.words (table first n)) }
-        ensures inside { IfSome result (λ c. (first + n ≤ 430) × (length c.words.now ≡ n)) }
-    {
-        if !has_table(first, n) {
-            return None;
-        }
-        Some(Cdf {
-            words: &self.words[first..first + n],
-        })
     }
 
     /// The entry of symbol `s` of the table of `n` symbols at word `first`, which adapts to the symbol.

@@ -2,8 +2,7 @@ use Rattle.std.proofs.Common.{◌≡◌, ℕ, ◌+◌, ◌-◌, ◌≤◌, true,
 use borrow.Rule.Slice.PartMut.{mid_of}
 use Rattle.cdf.specs.Layout.{descends}
 use Rattle.cdf.specs.Words.{table, words_of}
-use Rattle.cdf.proofs.Entries.{table_least, table_lawful}
-use Rattle.cdf.proofs.Layouts.{table_most}
+use Rattle.cdf.proofs.Layouts.{table_count, table_lawful}
 use Rattle.cdf.proofs.Symbols.{length_table}
 use Rattle.cdf.proofs.tables.Tables.cdf.Goals as goal
 
@@ -17,6 +16,6 @@ invariant_of-result c =
     let long : length (words_of w t) ≡ c.args.n = length_table w t listed c.args.self.now.long in
     record {
       lawful = subst (λ (vs : List ℕ). descends 32768 vs ≡ true) part (table_lawful w t listed c.args.self.now.fits);
-      least = subst (λ (vs : List ℕ). 2 ≤ length vs) part (omega (arith, long, table_least t listed));
-      most = subst (λ (vs : List ℕ). length vs ≤ 16) part (omega (arith, long, table_most t listed));
+      least = subst (λ (vs : List ℕ). 2 ≤ length vs) part (omega (arith, long, (table_count t listed).0));
+      most = subst (λ (vs : List ℕ). length vs ≤ 16) part (omega (arith, long, (table_count t listed).1));
     }
