@@ -66,28 +66,11 @@ abbrev pub Bytes : ℕ → ℕ → BlockSize → Type 0
 Bytes x y z = (above_place x + width z / 8 ≤ 512) × ((y % 16) / 2 + height z / 8 ≤ 8)
 
 pub bytes_inside : (x y : ℕ) (z : BlockSize) → x < 1024 → T (splits 64 z) → x % width_mi z ≡ 0 → y % height_mi z ≡ 0 → Bytes x y z
-bytes_inside x y BLOCK_4X4 l h a b = absurd h
-bytes_inside x y BLOCK_4X8 l h a b = absurd h
-bytes_inside x y BLOCK_8X4 l h a b = absurd h
 bytes_inside x y BLOCK_8X8 l h a b = (omega arith, omega arith)
-bytes_inside x y BLOCK_8X16 l h a b = absurd h
-bytes_inside x y BLOCK_16X8 l h a b = absurd h
 bytes_inside x y BLOCK_16X16 l h a b = (omega arith, omega arith)
-bytes_inside x y BLOCK_16X32 l h a b = absurd h
-bytes_inside x y BLOCK_32X16 l h a b = absurd h
 bytes_inside x y BLOCK_32X32 l h a b = (omega arith, omega arith)
-bytes_inside x y BLOCK_32X64 l h a b = absurd h
-bytes_inside x y BLOCK_64X32 l h a b = absurd h
 bytes_inside x y BLOCK_64X64 l h a b = (omega arith, omega arith)
-bytes_inside x y BLOCK_64X128 l h a b = absurd h
-bytes_inside x y BLOCK_128X64 l h a b = absurd h
-bytes_inside x y BLOCK_128X128 l h a b = absurd h
-bytes_inside x y BLOCK_4X16 l h a b = absurd h
-bytes_inside x y BLOCK_16X4 l h a b = absurd h
-bytes_inside x y BLOCK_8X32 l h a b = absurd h
-bytes_inside x y BLOCK_32X8 l h a b = absurd h
-bytes_inside x y BLOCK_16X64 l h a b = absurd h
-bytes_inside x y BLOCK_64X16 l h a b = absurd h
+bytes_inside x y _ l h a b = absurd h
 
 pub side_most : (n : ℕ) → side n ≡ true → n ≤ 1024
 side_most n h = leb→le n 1024 (and_second (leb 2 n) _ (and_second (eqb (n % 2) 0) _ (true→T (side n) h)))
@@ -161,27 +144,7 @@ bits_right z j =
 
 bits_test : (z : BlockSize) → T (bits_right z 0 && (bits_right z 1 && (bits_right z 2 && bits_right z 3)))
 bits_test BLOCK_4X4 = tt
-bits_test BLOCK_4X8 = tt
-bits_test BLOCK_8X4 = tt
-bits_test BLOCK_8X8 = tt
-bits_test BLOCK_8X16 = tt
-bits_test BLOCK_16X8 = tt
-bits_test BLOCK_16X16 = tt
-bits_test BLOCK_16X32 = tt
-bits_test BLOCK_32X16 = tt
-bits_test BLOCK_32X32 = tt
-bits_test BLOCK_32X64 = tt
-bits_test BLOCK_64X32 = tt
-bits_test BLOCK_64X64 = tt
-bits_test BLOCK_64X128 = tt
-bits_test BLOCK_128X64 = tt
-bits_test BLOCK_128X128 = tt
-bits_test BLOCK_4X16 = tt
-bits_test BLOCK_16X4 = tt
-bits_test BLOCK_8X32 = tt
-bits_test BLOCK_32X8 = tt
-bits_test BLOCK_16X64 = tt
-bits_test BLOCK_64X16 = tt
+bits_test _ = tt
 
 bits_at : (z : BlockSize) (j : ℕ) → j < 4 → T (bits_right z j)
 bits_at z j h = go j h (bits_test z)

@@ -200,27 +200,7 @@ skip_small s x y =
 -- partitions
 level_test : (z : BlockSize) → T (not (splits 64 z) || leb (level z) 3)
 level_test BLOCK_4X4 = tt
-level_test BLOCK_4X8 = tt
-level_test BLOCK_8X4 = tt
-level_test BLOCK_8X8 = tt
-level_test BLOCK_8X16 = tt
-level_test BLOCK_16X8 = tt
-level_test BLOCK_16X16 = tt
-level_test BLOCK_16X32 = tt
-level_test BLOCK_32X16 = tt
-level_test BLOCK_32X32 = tt
-level_test BLOCK_32X64 = tt
-level_test BLOCK_64X32 = tt
-level_test BLOCK_64X64 = tt
-level_test BLOCK_64X128 = tt
-level_test BLOCK_128X64 = tt
-level_test BLOCK_128X128 = tt
-level_test BLOCK_4X16 = tt
-level_test BLOCK_16X4 = tt
-level_test BLOCK_8X32 = tt
-level_test BLOCK_32X8 = tt
-level_test BLOCK_16X64 = tt
-level_test BLOCK_64X16 = tt
+level_test _ = tt
 
 pub level_small : (z : BlockSize) → T (splits 64 z) → level z ≤ 3
 level_small z h = leb→le (level z) 3 (go (splits 64 z) h (level_test z))
