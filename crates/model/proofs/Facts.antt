@@ -16,7 +16,7 @@ use Rattle.cdf.specs.Lists.{Each, from}
 use Rattle.cdf.specs.Start.{start_words}
 use Rattle.cdf.specs.Words.{Words}
 use Rattle.model.proofs.Reading.{written_symbols}
-use Rattle.model.proofs.Staged.{spots_sound, stage_laws, words_sound}
+use Rattle.model.proofs.Staged.{after_sound, below_tables, spots_sound, stage_laws, words_sound}
 use Rattle.model.proofs.Standing.{or_else_first, or_else_second, unless_true}
 use Rattle.model.proofs.Trails.{each_append}
 use Rattle.model.proofs.TreeTables.{trees_in_layout}
@@ -109,21 +109,13 @@ abbrev Kept : {D : Type 0} → Answer D → Type 0
 Kept (read_as d w rest place) = SoundWords w
 Kept (faulty f) = Unit {0}
 
-after_sound : (w : Words) (k : Coder) (s : ℕ) (D : Type 0) (R : D → Type 0) (f : ℕ → Syntax D) → TablesIn R (coded k f) → SoundWords w → SoundWords (after w k s)
-after_sound w (whole t) s D R f h sound = words_stay_sound w t s h.0 sound
-after_sound w (edge t ss) s D R f h sound = sound
-
-below_tables : (k : Coder) (s : ℕ) (D : Type 0) (R : D → Type 0) (f : ℕ → Syntax D) → TablesIn R (coded k f) → s < symbols k → TablesIn R (f s)
-below_tables (whole t) s D R f h l = h.1 s l
-below_tables (edge t ss) s D R f h l = h.1 s l
-
 read_keeps : (D : Type 0) (R : D → Type 0) (w : Words) (t : Syntax D) (began last place : ℕ) (es : List Entry) → TablesIn R t → SoundWords w → Kept (read w t began last place es)
 read_keeps D R w (done d) began last place es h sound = sound
 read_keeps D R w (never n) began last place es h sound = tt
 read_keeps D R w (coded k f) began last place [] h sound = tt
 read_keeps D R w (coded k f) began last place (e ∷ es) h sound =
     go (fits w k e) (λ t. ltb→lt e.s (symbols k) (and_first (ltb e.s (symbols k)) _ t))
-    (λ l. read_keeps D R (after w k e.s) (f e.s) began (table_of k).first (suc place) es (below_tables k e.s D R f h l) (after_sound w k e.s D R f h sound))
+    (λ l. read_keeps D R (after w k e.s) (f e.s) began (table_of k).first (suc place) es (below_tables R k e.s f h l) (after_sound R w k e.s f h sound))
   where
     go : (b : Bool) → (T b → e.s < symbols k)
         → (e.s < symbols k → Kept (read (after w k e.s) (f e.s) began (table_of k).first (suc place) es))
