@@ -1,6 +1,8 @@
 -- Facts that code leans on, and relations in the standard's words.
 use Rattle.std.proofs.Common.{◌≡◌, ℕ, zero, suc, ◌+◌, ◌-◌, ◌*◌, ◌/◌, ◌%◌, ◌^◌, ◌<◌, ◌≤◌, min, Bool, true, false, cond, ◌&&◌, T, eqb, ltb, leb, List, [], ◌∷◌, map, length, sym, refl, ap, ◌∙◌, subst, mul_comm, mul-le-mul_left, mul-suc, arith, eqb→eq, ltb→lt, leb→le}
+use Rattle.std.proofs.lemmas.Bool.{and_parts, eqb-true, leb-true}
 use Rattle.std.proofs.lemmas.List.{length-map}
+use Rattle.cdf.proofs.Ranges.{all_below, true_below}
 use Rattle.cdf.specs.declared.entry.Entry.{Entry}
 use Rattle.av1.specs.declared.size.BlockSize.{BlockSize}
 use Rattle.av1.specs.declared.size.BlockSize.TheVariants.{BLOCK_4X4, BLOCK_4X8, BLOCK_8X4, BLOCK_8X8, BLOCK_8X16, BLOCK_16X8, BLOCK_16X16, BLOCK_16X32, BLOCK_32X16, BLOCK_32X32, BLOCK_32X64, BLOCK_64X32, BLOCK_64X64, BLOCK_64X128, BLOCK_128X64, BLOCK_128X128, BLOCK_4X16, BLOCK_16X4, BLOCK_8X32, BLOCK_32X8, BLOCK_16X64, BLOCK_64X16}
@@ -73,7 +75,7 @@ bytes_inside x y BLOCK_64X64 l h a b = (omega arith, omega arith)
 bytes_inside x y _ l h a b = absurd h
 
 pub side_most : (n : ℕ) → side n ≡ true → n ≤ 1024
-side_most n h = leb→le n 1024 (and_second (leb 2 n) _ (and_second (eqb (n % 2) 0) _ (true→T (side n) h)))
+side_most n h = leb-true n 1024 (and_parts (leb 2 n) _ (and_parts (eqb (n % 2) 0) _ h).1).1
 
 pub spots_inside : SpotsInside
 spots_inside s (of.Partition x y z) d sound ok = tt
@@ -134,25 +136,15 @@ abbrev bits_right : BlockSize → ℕ → Bool
 bits_right z j =
     eqb (bit j (above_byte z)) (cond (ltb (width z) (8 * 2 ^ j)) 1 0) && eqb (bit j (left_byte z)) (cond (ltb (height z) (8 * 2 ^ j)) 1 0)
 
-bits_test : (z : BlockSize) → T (bits_right z 0 && (bits_right z 1 && (bits_right z 2 && bits_right z 3)))
+bits_test : (z : BlockSize) → T (all_below 4 (bits_right z))
 bits_test BLOCK_4X4 = tt
 bits_test _ = tt
 
-bits_at : (z : BlockSize) (j : ℕ) → j < 4 → T (bits_right z j)
-bits_at z j h = go j h (bits_test z)
-  where
-    go : (j : ℕ) → j < 4 → T (bits_right z 0 && (bits_right z 1 && (bits_right z 2 && bits_right z 3))) → T (bits_right z j)
-    go zero h t = and_first (bits_right z 0) _ t
-    go (suc zero) h t = and_first (bits_right z 1) _ (and_second (bits_right z 0) _ t)
-    go (suc (suc zero)) h t = and_first (bits_right z 2) _ (and_second (bits_right z 1) _ (and_second (bits_right z 0) _ t))
-    go (suc (suc (suc zero))) h t = and_second (bits_right z 2) _ (and_second (bits_right z 1) _ (and_second (bits_right z 0) _ t))
-    go (suc (suc (suc (suc j)))) h t = absurd (omega arith)
-
 pub context_bits : ContextBits
-context_bits z j h = (
-  eqb→eq (bit j (above_byte z)) (cond (ltb (width z) (8 * 2 ^ j)) 1 0) (and_first (eqb (bit j (above_byte z)) (cond (ltb (width z) (8 * 2 ^ j)) 1 0)) _ (bits_at z j h)),
-  eqb→eq (bit j (left_byte z)) (cond (ltb (height z) (8 * 2 ^ j)) 1 0) (and_second (eqb (bit j (above_byte z)) (cond (ltb (width z) (8 * 2 ^ j)) 1 0)) _ (bits_at z j h)),
-)
+context_bits z j h =
+    let both : (eqb (bit j (above_byte z)) (cond (ltb (width z) (8 * 2 ^ j)) 1 0) ≡ true) × (eqb (bit j (left_byte z)) (cond (ltb (height z) (8 * 2 ^ j)) 1 0) ≡ true) =
+    and_parts _ _ (true_below 4 (bits_right z) (bits_test z) j h) in
+    (eqb-true _ _ both.0, eqb-true _ _ both.1)
 
 pub faults : Faults
 unfolding start start_words prediction segment_number
