@@ -13,7 +13,7 @@ use Rattle.av1.specs.declared.tile.Cell.{Cell}
 use Rattle.av1.specs.Sizes.{width_mi, height_mi}
 use Rattle.av1.specs.Tiles.{no_cell}
 use Rattle.cdf.specs.Lists.{from, Each}
-use Rattle.cdf.proofs.Booleans.{and_first, and_second, and_both, true→T, T→true, not-T→false, same_test}
+use Rattle.cdf.proofs.Booleans.{and_first, and_second, and_both, true→T, same_test}
 use Rattle.journal.specs.declared.Spot.{Spot}
 use Rattle.journal.specs.declared.Spot.TheVariants as spot
 use Rattle.model.specs.Decisions.{State, units, in_tile, put_spot, put_spots, block_cells, cells_of}

@@ -1,18 +1,17 @@
 -- Facts that code leans on, and relations in the standard's words.
-use Rattle.std.proofs.Common.{◌≡◌, ℕ, zero, suc, ◌+◌, ◌-◌, ◌*◌, ◌/◌, ◌%◌, ◌^◌, ◌<◌, ◌≤◌, min, Bool, true, false, cond, ◌&&◌, T, eqb, ltb, leb, List, [], ◌∷◌, map, length, sym, refl, ap, ◌∙◌, subst, mul_comm, mul-le-mul_left, mul-suc, arith, eqb→eq, ltb→lt, leb→le}
+use Rattle.std.proofs.Common.{◌≡◌, ℕ, zero, suc, ◌+◌, ◌-◌, ◌*◌, ◌/◌, ◌%◌, ◌^◌, ◌<◌, ◌≤◌, min, Bool, true, false, cond, ◌&&◌, T, eqb, ltb, leb, List, [], ◌∷◌, map, length, sym, refl, ap, ◌∙◌, subst, mul_comm, mul-le-mul_left, mul-suc, arith, eqb→eq, ltb→lt}
 use Rattle.std.proofs.lemmas.Bool.{and_parts, eqb-true, leb-true}
 use Rattle.std.proofs.lemmas.List.{length-map}
 use Rattle.cdf.proofs.Ranges.{all_below, true_below}
 use Rattle.cdf.specs.declared.entry.Entry.{Entry}
 use Rattle.av1.specs.declared.size.BlockSize.{BlockSize}
-use Rattle.av1.specs.declared.size.BlockSize.TheVariants.{BLOCK_4X4, BLOCK_4X8, BLOCK_8X4, BLOCK_8X8, BLOCK_8X16, BLOCK_16X8, BLOCK_16X16, BLOCK_16X32, BLOCK_32X16, BLOCK_32X32, BLOCK_32X64, BLOCK_64X32, BLOCK_64X64, BLOCK_64X128, BLOCK_128X64, BLOCK_128X128, BLOCK_4X16, BLOCK_16X4, BLOCK_8X32, BLOCK_32X8, BLOCK_16X64, BLOCK_64X16}
+use Rattle.av1.specs.declared.size.BlockSize.TheVariants.{BLOCK_4X4, BLOCK_8X8, BLOCK_16X16, BLOCK_32X32, BLOCK_64X64}
 use Rattle.journal.specs.declared.Spot.TheVariants as spot
 use Rattle.model.specs.declared.Question.TheVariants as of
 use Rattle.av1.specs.declared.refusal.Refusal.TheVariants as no
 use Rattle.av1.specs.Sides.{side}
 use Rattle.av1.specs.Sizes.{no_side_above, above_byte, fits_in, height, height_mi, left_byte, splits, width, width_mi}
-use Rattle.cdf.proofs.Booleans.{and_first, and_second, true→T}
-use Rattle.cdf.proofs.Layouts.{words_stay_sound}
+use Rattle.cdf.proofs.Booleans.{and_first, and_second}
 use Rattle.cdf.specs.Layout.{SoundWords, fillers, large_tables, lawful, small_tables, tables}
 use Rattle.cdf.specs.Lists.{Each, from}
 use Rattle.cdf.specs.Start.{start_words}
@@ -22,7 +21,7 @@ use Rattle.model.proofs.Staged.{after_sound, below_tables, spots_sound, stage_la
 use Rattle.model.proofs.Standing.{or_else_first, or_else_second, unless_true}
 use Rattle.model.proofs.Trails.{each_append}
 use Rattle.model.proofs.TreeTables.{trees_in_layout}
-use Rattle.model.specs.Coders.{Coder, after, edge, fits, symbols, table_of, whole}
+use Rattle.model.specs.Coders.{after, fits, symbols, table_of}
 use Rattle.model.specs.Decisions.{above_length, above_place, left_length, left_place, longest, Decision, State, TablesIn, bit, block_cells, brings_map, cells_of, decided, in_tile, path, prediction, segment_number, segment_spot, skip_spot, spots, stage, tree, units, with_words}
 use Rattle.model.specs.Facts.{ContextBits, Counted, Faults, Inside, ReadsSound, ShortRun, SpotsInside}
 use Rattle.model.specs.Runs.{map_asked_if, sent, unless}

@@ -9,7 +9,7 @@ use Rattle.model.proofs.Trees.{reads_back, tells_apart}
 use Rattle.model.specs.Coders.{after}
 use Rattle.model.specs.Runs.{Core, Laws, Ran, ReadsRecord, Standing, TellsRunsApart, all_read, empty_book, fresh, map_asked_if, next_state, question_of, read_asked, reads, run, sent, symbol, with_first, worked}
 use Rattle.model.specs.Subject.{Subject}
-use Rattle.model.specs.Tree.{Apart, Leads, Syntax, coded, done, never, read, read_as, written}
+use Rattle.model.specs.Tree.{Apart, Leads, Syntax, coded, done, read, read_as, written}
 
 -- the symbols of what is written are the path
 pub written_symbols : (D : Type 0) (S : Subject) (w : Words) (t : Syntax D) (p : List ℕ) (d : D) → Leads t p d → map (symbol S) (written w t p).entries ≡ p

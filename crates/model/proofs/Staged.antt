@@ -1,8 +1,7 @@
 -- The stage's subject has the laws, and so the theorems over whole runs.
-use Rattle.std.proofs.Common.{◌≡◌, ℕ, ◌+◌, ◌*◌, ◌<◌, ◌≤◌, Bool, true, false, cond, not, ◌&&◌, ◌||◌, T, eqb, ltb, leb, List, [], ◌∷◌, length, get_or, set, sym, refl, ap, ◌∙◌, subst, ap₂, arith, le→leb, eqb→eq, ltb→lt, leb→le}
+use Rattle.std.proofs.Common.{◌≡◌, ℕ, ◌+◌, ◌*◌, ◌<◌, ◌≤◌, Bool, true, false, cond, not, ◌||◌, T, eqb, ltb, leb, List, [], ◌∷◌, length, get_or, set, sym, refl, ap, ◌∙◌, subst, arith, le→leb, eqb→eq, ltb→lt, leb→le}
 use mathlib.Core.Option.{none}
-use lib.Seq.{sets}
-use Rattle.std.proofs.lemmas.List.{set-set, set-get_or, length-take, length-set}
+use Rattle.std.proofs.lemmas.List.{set-set, set-get_or, length-take}
 use Rattle.journal.specs.declared.Window.{Window}
 use Rattle.journal.specs.declared.Spot.{Spot}
 use Rattle.journal.specs.declared.Spot.TheVariants as spot

@@ -1,5 +1,5 @@
 -- Trials leave no trace: the invariant of a run, and that every call keeps it.
-use Rattle.std.proofs.Common.{◌≡◌, ℕ, ◌+◌, ◌≤◌, min, Bool, true, false, ◌&&◌, T, leb, List, [], ◌∷◌, ◌++◌, map, length, take, sym, refl, ap, ◌∙◌, subst, subst₂, arith, le→leb, leb→le}
+use Rattle.std.proofs.Common.{◌≡◌, ℕ, ◌+◌, ◌≤◌, Bool, true, false, ◌&&◌, T, leb, List, [], ◌∷◌, ◌++◌, map, length, take, sym, refl, ap, ◌∙◌, subst, subst₂, arith, le→leb, leb→le}
 use mathlib.Core.Path.{subst₃}
 use mathlib.Core.Option.{Option, none, some, none-ne-some}
 use lib.Seq.{take-length}

@@ -1,5 +1,5 @@
 -- A decision is its symbols and then its spots.
-use Rattle.std.proofs.Common.{◌≡◌, ℕ, Bool, true, false, not, leb, List, [], ◌∷◌, ◌++◌, sym, refl, ap, ◌∙◌}
+use Rattle.std.proofs.Common.{◌≡◌, ℕ, Bool, true, false, List, [], ◌∷◌, ◌++◌, sym, refl, ap, ◌∙◌}
 use Rattle.std.proofs.lemmas.List.{append_assoc, append-nil}
 use Rattle.cdf.specs.declared.entry.Entry.{Entry}
 use Rattle.journal.specs.declared.Window.{Window}
@@ -10,7 +10,7 @@ use Rattle.model.specs.Calls.{BySteps, StepsThen, log_if, window_log, spot_step,
 use Rattle.model.specs.Coders.{Coder, after, edge, entry_of, whole}
 use Rattle.model.specs.Decisions.{Decision, State, add_if, decided, is_large, is_small, large_of, old_spot, old_spots, path, put_spot, put_spots, small_of, spots, stage, tree, window_at, windows_of, with_words}
 use Rattle.model.specs.Runs.{Core, Lane, World, ask, done_call}
-use Rattle.model.specs.Tree.{Syntax, coded, done, never, read_by, written}
+use Rattle.model.specs.Tree.{Syntax, coded, done, read_by, written}
 
 log_on : {R : Type 0} (ms : List Mark) (l : Lane R) (b : Bool) (r : R) (rs : List R) → log_if ms (log_if ms l (add_if b r [])) rs ≡ log_if ms l (add_if b r rs)
 log_on [] l b r rs = refl

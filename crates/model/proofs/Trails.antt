@@ -1,8 +1,8 @@
 -- Undo records in lists and lanes.
 use Rattle.std.proofs.Common.{◌≡◌, ℕ, zero, suc, ◌+◌, ◌≤◌, Bool, List, [], ◌∷◌, ◌++◌, length, take, drop, set, sym, refl, ap, ◌∙◌, arith, take-suc-set}
-use Rattle.std.proofs.lemmas.List.{append_assoc, append-nil, length-set, length-take, take-append-le, drop-append-le, take-append-drop}
+use Rattle.std.proofs.lemmas.List.{append_assoc, append-nil, length-set, take-append-le, drop-append-le, take-append-drop}
 use Rattle.cdf.specs.Lists.{Each}
-use Rattle.model.specs.Runs.{Lane, Taken, back_to, in_use, logged, unwound}
+use Rattle.model.specs.Runs.{Lane, Taken, in_use, logged, unwound}
 
 pub unwound_append : {X R : Type 0} (put : X → R → X) (s : X) (xs ys : List R) → unwound put s (xs ++ ys) ≡ unwound put (unwound put s ys) xs
 unwound_append put s [] ys = refl

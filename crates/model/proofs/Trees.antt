@@ -1,12 +1,10 @@
 -- The laws of any tree of symbols.
 use Rattle.std.proofs.lemmas.Bool.{and_from, eq-eqb, lt-ltb}
 use Rattle.std.proofs.lemmas.List.{append-nil}
-use Rattle.std.proofs.Common.{subst₂, ◌≡◌, ℕ, suc, ◌+◌, ◌-◌, ◌<◌, Bool, true, false, eqb, ltb, ◌≢◌, List, [], ◌∷◌, ◌++◌, length, sym, refl, ap, ◌∙◌, subst, arith, lt→ltb}
+use Rattle.std.proofs.Common.{subst₂, ◌≡◌, ℕ, suc, ◌+◌, ◌-◌, ◌<◌, Bool, true, false, ◌≢◌, List, [], ◌∷◌, ◌++◌, length, sym, refl, ap, ◌∙◌, subst, arith}
 use native.Mathlib.Decide.{ℕ_discrete}
-use lib.Dec.{eqb_refl}
 use Rattle.cdf.specs.declared.entry.Entry.{Entry}
 use Rattle.av1.specs.declared.refusal.Refusal.TheVariants as no
-use Rattle.cdf.proofs.Booleans.{T→true, and_both}
 use Rattle.cdf.specs.Words.{Words, fh_at, fl_at}
 use Rattle.model.specs.Coders.{Coder, after, coded_by, entry_of, fits, symbols, table_of}
 use Rattle.model.specs.Tree.{Answer, Apart, Begins, Fault, Leads, ReadBy, ReadThen, ReadsBack, Syntax, TellsApart, and_then, coded, done, faulty, go_on, never, read, read_as, read_by, written}

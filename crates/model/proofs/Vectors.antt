@@ -1,6 +1,6 @@
 -- A vector's symbols lead to it.
 use Rattle.std.proofs.lemmas.Bool.{true≢false, false≢true}
-use Rattle.std.proofs.Common.{◌≡◌, ℕ, zero, suc, ◌+◌, ◌-◌, ◌*◌, ◌/◌, ◌%◌, ◌^◌, ◌<◌, ◌≤◌, Bool, true, false, cond, not, T, eqb, ltb, leb, ◌∷◌, ◌++◌, ℤ, pos, negsuc, sym, refl, ap, subst, pow-suc, arith, eqb→eq, ltb→lt, leb→le, nltb→le}
+use Rattle.std.proofs.Common.{◌≡◌, ℕ, zero, suc, ◌+◌, ◌-◌, ◌*◌, ◌/◌, ◌%◌, ◌^◌, ◌<◌, ◌≤◌, Bool, true, false, cond, not, T, eqb, ltb, leb, ◌∷◌, ◌++◌, ℤ, pos, negsuc, refl, ap, subst, pow-suc, arith, eqb→eq, ltb→lt, leb→le, nltb→le}
 use native.Mathlib.Nat.{pow-zero}
 use Rattle.av1.specs.declared.mv.MvSubpelPrecision.{MvSubpelPrecision}
 use Rattle.av1.specs.declared.mv.MvSubpelPrecision.TheVariants as at

@@ -1,10 +1,10 @@
 -- How many entries and windows the symbols of a path make.
-use Rattle.std.proofs.Common.{◌≡◌, ℕ, zero, suc, ◌+◌, ◌*◌, ◌/◌, ◌%◌, Bool, true, false, not, leb, List, [], ◌∷◌, ◌++◌, length, refl, ap, ◌∙◌, ap₂, arith}
+use Rattle.std.proofs.Common.{◌≡◌, ℕ, zero, suc, ◌+◌, ◌*◌, ◌/◌, ◌%◌, Bool, true, false, List, [], ◌∷◌, ◌++◌, length, refl, ap, ◌∙◌, ap₂, arith}
 use Rattle.std.proofs.lemmas.List.{length-append}
 use Rattle.cdf.specs.Words.{Words}
 use Rattle.model.specs.Coders.{after, edge, whole}
 use Rattle.model.specs.Decisions.{add_if, is_large, is_small, large_of, small_of, window_at, windows_of}
-use Rattle.model.specs.Tree.{Leads, Syntax, and_then, coded, done, never, read_by, written}
+use Rattle.model.specs.Tree.{Leads, Syntax, and_then, coded, done, read_by, written}
 use Rattle.model.specs.Vector.{bits_of, bits_tree}
 
 length_add : {A : Type 0} (b : Bool) (x : A) (l m : List A) (n : ℕ) → length l ≡ length m + n → length (add_if b x l) ≡ length (add_if b x m) + n

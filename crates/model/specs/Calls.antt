@@ -1,5 +1,5 @@
 -- A call by its single steps, and the public calls as functions of the world.
-use Rattle.std.specs.Prelude.{◌≡◌, ℕ, suc, Bool, true, not, List, [], ◌∷◌, ◌++◌, length, Ok, Err, Result, nat_le}
+use Rattle.std.specs.Prelude.{◌≡◌, ℕ, suc, Bool, true, List, [], ◌∷◌, ◌++◌, length, Ok, Err, Result}
 use Rattle.std.proofs.Math.Option.{Option, none, some}
 use Rattle.cdf.specs.declared.entry.Entry.{Entry}
 use Rattle.journal.specs.declared.Window.{Window}
