@@ -45,24 +45,33 @@ module _ (S : Subject) (L : Laws S) where
   abbrev Own : TrailOf S → Type 0
   Own t = Each S.InSmall t.small × Each S.InLarge t.large
 
+  -- records of two lanes pass each other
+  large_past_small : (s : S.State) (as' : List S.Small) (bs : List S.Large) → S.Sound s → Each S.InSmall as' → Each S.InLarge bs
+      → unwound S.put_large (unwound S.put_small s as') bs ≡ unwound S.put_small (unwound S.put_large s bs) as'
+  large_past_small s as' bs = unwound_cross S.Sound S.InSmall S.InLarge S.put_small S.put_large L.small_sound L.large_sound L.small_large s bs as'
+
+  spot_past_small : (s : S.State) (as' : List S.Small) (cs : List S.Spot) → S.Sound s → unwound S.put_spot (unwound S.put_small s as') cs ≡ unwound S.put_small (unwound S.put_spot s cs) as'
+  spot_past_small s as' cs sound =
+      unwound_cross S.Sound (λ a. Unit {0}) (λ c. Unit {0}) S.put_small S.put_spot L.small_sound L.spot_sound (λ s a c h i j. L.small_spot s a c) s cs as' sound (each_any as') (each_any cs)
+
+  spot_past_large : (s : S.State) (bs : List S.Large) (cs : List S.Spot) → S.Sound s → unwound S.put_spot (unwound S.put_large s bs) cs ≡ unwound S.put_large (unwound S.put_spot s cs) bs
+  spot_past_large s bs cs sound =
+      unwound_cross S.Sound (λ b. Unit {0}) (λ c. Unit {0}) S.put_large S.put_spot L.large_sound L.spot_sound (λ s b c h i j. L.large_spot s b c) s cs bs sound (each_any bs) (each_any cs)
+
+  smalls_sound : (s : S.State) (as' : List S.Small) → S.Sound s → S.Sound (unwound S.put_small s as')
+  smalls_sound s as' = unwound_sound S.Sound S.put_small L.small_sound s as'
+
+  larges_sound : (s : S.State) (bs : List S.Large) → S.Sound s → S.Sound (unwound S.put_large s bs)
+  larges_sound s bs = unwound_sound S.Sound S.put_large L.large_sound s bs
+
   unwound_joined : (s : S.State) (t u : TrailOf S) → S.Sound s → Own t → Own u → undone_state S s (joined t u) ≡ undone_state S (undone_state S s u) t
   unwound_joined s t u sound own own' =
       unwound_append C (unwound B (unwound A s (t.small ++ u.small)) (t.large ++ u.large)) t.spots u.spots
       ∙ ap (λ z. unwound C (unwound C z u.spots) t.spots) (unwound_append B (unwound A s (t.small ++ u.small)) t.large u.large)
       ∙ ap (λ z. unwound C (unwound C (unwound B (unwound B z u.large) t.large) u.spots) t.spots) (unwound_append A s t.small u.small)
-      ∙ ap (λ z. unwound C (unwound C (unwound B z t.large) u.spots) t.spots)
-      (unwound_cross S.Sound S.InSmall S.InLarge A B L.small_sound L.large_sound L.small_large (unwound A s u.small) u.large t.small
-      (unwound_sound S.Sound A L.small_sound s u.small sound) own.0 own'.1)
-      ∙ ap (λ z. unwound C z t.spots)
-      (unwound_cross S.Sound (λ b. Unit {0}) (λ c. Unit {0}) B C L.large_sound L.spot_sound (λ s b c h i j. L.large_spot s b c)
-      (unwound A (unwound B (unwound A s u.small) u.large) t.small) u.spots t.large
-      (unwound_sound S.Sound A L.small_sound _ t.small (unwound_sound S.Sound B L.large_sound _ u.large (unwound_sound S.Sound A L.small_sound s u.small sound)))
-      (each_any t.large) (each_any u.spots))
-      ∙ ap (λ z. unwound C (unwound B z t.large) t.spots)
-      (unwound_cross S.Sound (λ a. Unit {0}) (λ c. Unit {0}) A C L.small_sound L.spot_sound (λ s a c h i j. L.small_spot s a c)
-      (unwound B (unwound A s u.small) u.large) u.spots t.small
-      (unwound_sound S.Sound B L.large_sound _ u.large (unwound_sound S.Sound A L.small_sound s u.small sound))
-      (each_any t.small) (each_any u.spots))
+      ∙ ap (λ z. unwound C (unwound C (unwound B z t.large) u.spots) t.spots) (large_past_small y t.small u.large y_sound own.0 own'.1)
+      ∙ ap (λ z. unwound C z t.spots) (spot_past_large (unwound A z t.small) t.large u.spots (smalls_sound z t.small z_sound))
+      ∙ ap (λ z. unwound C (unwound B z t.large) t.spots) (spot_past_small z t.small u.spots z_sound)
     where
       A : S.State → S.Small → S.State
       A = S.put_small
@@ -72,6 +81,18 @@ module _ (S : Subject) (L : Laws S) where
 
       C : S.State → S.Spot → S.State
       C = S.put_spot
+
+      y : S.State
+      y = unwound A s u.small
+
+      y_sound : S.Sound y
+      y_sound = smalls_sound s u.small sound
+
+      z : S.State
+      z = unwound B y u.large
+
+      z_sound : S.Sound z
+      z_sound = larges_sound y u.large y_sound
 
   -- nothing is passed over in two trails one after the other
   taken_joined : (s : S.State) (t u : TrailOf S) → S.Sound s → Own t → Own u → AllTaken S s u → AllTaken S (undone_state S s u) t → AllTaken S s (joined t u)
@@ -96,13 +117,13 @@ module _ (S : Subject) (L : Laws S) where
       y = unwound A s u.small
 
       y_sound : S.Sound y
-      y_sound = unwound_sound S.Sound A L.small_sound s u.small sound
+      y_sound = smalls_sound s u.small sound
 
       z : S.State
       z = unwound B y u.large
 
       z_sound : S.Sound z
-      z_sound = unwound_sound S.Sound B L.large_sound y u.large y_sound
+      z_sound = larges_sound y u.large y_sound
 
       first : Taken S.takes_small A y t.small
       first =
@@ -112,13 +133,10 @@ module _ (S : Subject) (L : Laws S) where
 
       second : Taken S.takes_large B (unwound B (unwound A y t.small) u.large) t.large
       second =
-          subst (λ v. Taken S.takes_large B v t.large)
-          (sym (unwound_cross S.Sound S.InSmall S.InLarge A B L.small_sound L.large_sound L.small_large y u.large t.small y_sound own.0 own'.1))
+          subst (λ v. Taken S.takes_large B v t.large) (sym (large_past_small y t.small u.large y_sound own.0 own'.1))
           (taken_back S.Sound (λ b. Unit {0}) (λ c. Unit {0}) S.takes_large B C L.large_sound L.spot_sound (λ s b c h p o. L.large_spot s b c) (λ s b c h p o. L.takes_large_spot s b c)
-          (unwound A z t.small) u.spots t.large (unwound_sound S.Sound A L.small_sound z t.small z_sound) (each_any u.spots) (each_any t.large)
-          (subst (λ v. Taken S.takes_large B v t.large)
-          (sym (unwound_cross S.Sound (λ a. Unit {0}) (λ c. Unit {0}) A C L.small_sound L.spot_sound (λ s a c h p o. L.small_spot s a c) z u.spots t.small z_sound (each_any t.small) (each_any u.spots)))
-          k.1))
+          (unwound A z t.small) u.spots t.large (smalls_sound z t.small z_sound) (each_any u.spots) (each_any t.large)
+          (subst (λ v. Taken S.takes_large B v t.large) (sym (spot_past_small z t.small u.spots z_sound)) k.1))
 
   own_above : (t : TrailOf S) (m : Mark) → Own t → Own (above S t m)
   own_above t m h = (each_drop S.InSmall m.used.small t.small h.0, each_drop S.InLarge m.used.large t.large h.1)
