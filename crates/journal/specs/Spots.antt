@@ -60,7 +60,7 @@ below_twice size i a l =
     cond_both (nat_lt i size) (slice_set l i a) l (λ m. put_below size i a m ≡ m) (λ t. below_same size i a (slice_set l i a) (set-set l i a a))
     (cond-false (nat_lt i size) (slice_set l i a) l)
 
-length_below : {A : Type 0} (size i : ℕ) (a : A) (l : List A) → length (put_below size i a l) ≡ length l
+pub length_below : {A : Type 0} (size i : ℕ) (a : A) (l : List A) → length (put_below size i a l) ≡ length l
 length_below size i a l = cond_both (nat_lt i size) (slice_set l i a) l (λ m. length m ≡ length l) (λ t. length-set l i a) (λ t. refl)
 
 held_same : (r : Spot) (p : Places) → HoldsSpot r p → put_places r p ≡ p

@@ -8,14 +8,10 @@ use Rattle.model.specs.Tree.{Leads}
 
 leads : (u v : ℤ) → magnitude u ≤ 16 → magnitude v ≤ 16 → T (not (eqb (magnitude u) 0 && eqb (magnitude v) 0)) → Leads alphas_tree (alphas_path (u, v)) (u, v)
 leads (pos zero) (pos zero) h k n = absurd n
-leads (pos zero) (pos (suc b)) h k n = (omega arith, (omega arith, refl))
-leads (pos zero) (negsuc b) h k n = (omega arith, (omega arith, refl))
 leads (pos (suc a)) (pos zero) h k n = (omega arith, (omega arith, refl))
-leads (pos (suc a)) (pos (suc b)) h k n = (omega arith, (omega arith, (omega arith, refl)))
-leads (pos (suc a)) (negsuc b) h k n = (omega arith, (omega arith, (omega arith, refl)))
 leads (negsuc a) (pos zero) h k n = (omega arith, (omega arith, refl))
-leads (negsuc a) (pos (suc b)) h k n = (omega arith, (omega arith, (omega arith, refl)))
-leads (negsuc a) (negsuc b) h k n = (omega arith, (omega arith, (omega arith, refl)))
+leads (pos zero) _ h k n = (omega arith, (omega arith, refl))
+leads _ _ h k n = (omega arith, (omega arith, (omega arith, refl)))
 
 pub alphas_leads : (d : ℤ × ℤ) → T (alphas_allowed d) → Leads alphas_tree (alphas_path d) d
 alphas_leads d h =

@@ -1,14 +1,19 @@
 -- The cells that a decision sets, unit by unit.
-use Rattle.std.proofs.Common.{◌≡◌, ℕ, zero, suc, ◌+◌, ◌-◌, ◌*◌, ◌<◌, ◌≤◌, min, Bool, true, false, cond, ◌&&◌, ◌||◌, T, eqb, ltb, leb, List, [], ◌∷◌, ◌++◌, map, length, get_or, set, sym, refl, ap, ◌∙◌, subst, mul-le-mul_right, add-mul, one-mul, arith, le→leb, eqb→eq, ltb→lt, lt→ltb, leb→le}
+use Rattle.std.proofs.Common.{◌⊎◌, inl, inr, ◌≡◌, ℕ, zero, suc, ◌+◌, ◌-◌, ◌*◌, ◌<◌, ◌≤◌, min, Bool, true, false, cond, ◌&&◌, ◌||◌, T, eqb, ltb, leb, List, [], ◌∷◌, ◌++◌, map, length, get_or, set, sym, refl, ap, ◌∙◌, subst, mul-le-mul_right, add-mul, one-mul, arith, le→leb, eqb→eq, ltb→lt, lt→ltb, leb→le}
 use native.Mathlib.Decide.{dec_lt, ℕ_discrete}
 use lib.Dec.{eqb_refl}
-use Rattle.std.proofs.lemmas.List.{length-set, get_or-set_same, get_or-set_other}
+use Rattle.std.proofs.lemmas.Bool.{cases_eq, cond-false, cond-true, eq-eqb, lt-ltb, ne_eqb}
+use Rattle.std.proofs.lemmas.Grind.{get_or-set_at}
+use Rattle.std.proofs.lemmas.List.{get_or-set_other}
+use Rattle.std.proofs.Math.Bool.{or_assoc}
+use Rattle.journal.specs.Spots.{length_below}
+use Rattle.model.proofs.Staged.{spots_still}
 use Rattle.av1.specs.declared.size.BlockSize.{BlockSize}
 use Rattle.av1.specs.declared.tile.Cell.{Cell}
 use Rattle.av1.specs.Sizes.{width_mi, height_mi}
 use Rattle.av1.specs.Tiles.{no_cell}
 use Rattle.cdf.specs.Lists.{from, Each}
-use Rattle.cdf.proofs.Booleans.{and_first, and_second, and_both, true→T, T→true, not-T→false, same_test}
+use Rattle.cdf.proofs.Booleans.{and_first, and_second, and_both, true→T, same_test}
 use Rattle.journal.specs.declared.Spot.{Spot}
 use Rattle.journal.specs.declared.Spot.TheVariants as spot
 use Rattle.model.specs.Decisions.{State, units, in_tile, put_spot, put_spots, block_cells, cells_of}
@@ -30,31 +35,20 @@ module _ (h : ℕ → Cell) where
 
   set_one : (s : State) (i k : ℕ) → i < units s → length s.cells ≡ units s
       → get_or (put_spot s (spot.Cell i (h i))).cells k no_cell ≡ cond (eqb i k) (h k) (get_or s.cells k no_cell)
-  set_one s i k l long = ap (λ b. get_or (cond b (set s.cells i (h i)) s.cells) k no_cell) (T→true (ltb i (units s)) (lt→ltb i (units s) l)) ∙ go (ℕ_discrete i k)
+  set_one s i k l long = ap (λ c. get_or c k no_cell) (cond-true (ltb i (units s)) _ _ (lt-ltb i (units s) l)) ∙ go (cases_eq i k)
     where
-      go : Dec (i ≡ k) → get_or (set s.cells i (h i)) k no_cell ≡ cond (eqb i k) (h k) (get_or s.cells k no_cell)
-      go (yes e) =
-          ap (λ j. get_or (set s.cells i (h i)) j no_cell) (sym e) ∙ get_or-set_same s.cells i (h i) no_cell (omega (arith, long)) ∙ ap h e
-          ∙ sym (ap (λ b. cond b (h k) (get_or s.cells k no_cell)) (T→true (eqb i k) (subst (λ j. T (eqb i j)) e (eqb_refl i))))
-      go (no e) =
-          get_or-set_other s.cells i k (h i) no_cell (λ d. e (sym d))
-          ∙ sym (ap (λ b. cond b (h k) (get_or s.cells k no_cell)) (not-T→false (eqb i k) (λ t. e (eqb→eq i k t))))
+      go : (i ≡ k) ⊎ (i ≡ k → ⊥) → get_or (set s.cells i (h i)) k no_cell ≡ cond (eqb i k) (h k) (get_or s.cells k no_cell)
+      go (inl e) = get_or-set_at s.cells i k (h i) no_cell (sym e) (omega (arith, long)) ∙ ap h e ∙ sym (cond-true (eqb i k) _ _ (eq-eqb i k e))
+      go (inr n) = get_or-set_other s.cells i k (h i) no_cell (λ d. n (sym d)) ∙ sym (cond-false (eqb i k) _ _ (ne_eqb i k n))
 
   set_all : (is : List ℕ) (s : State) (k : ℕ) → Each (λ (i : ℕ). i < units s) is → length s.cells ≡ units s
       → get_or (put_spots s (set_at is)).cells k no_cell ≡ cond (holds k is) (h k) (get_or s.cells k no_cell)
   set_all [] s k e long = refl
   set_all (i ∷ is) s k e long =
-      set_all is (put_spot s (spot.Cell i (h i))) k e.1 kept
+      set_all is (put_spot s (spot.Cell i (h i))) k e.1 (length_below (units s) i (h i) s.cells ∙ long)
       ∙ ap (λ c. cond (holds k is) (h k) c) (set_one s i k e.0 long)
       ∙ both (eqb i k) (holds k is)
     where
-      kept : length (put_spot s (spot.Cell i (h i))).cells ≡ units s
-      kept = go (ltb i (units s))
-        where
-          go : (b : Bool) → length (cond b (set s.cells i (h i)) s.cells) ≡ units s
-          go true = length-set s.cells i (h i) ∙ long
-          go false = long
-
       both : (a b : Bool) → cond b (h k) (cond a (h k) (get_or s.cells k no_cell)) ≡ cond (a || b) (h k) (get_or s.cells k no_cell)
       both true true = refl
       both true false = refl
@@ -63,11 +57,7 @@ module _ (h : ℕ → Cell) where
 -- the places of a block
 holds_append : (k : ℕ) (is js : List ℕ) → holds k (is ++ js) ≡ (holds k is || holds k js)
 holds_append k [] js = refl
-holds_append k (i ∷ is) js = ap (λ b. eqb i k || b) (holds_append k is js) ∙ assoc (eqb i k) (holds k is) (holds k js)
-  where
-    assoc : (a b c : Bool) → (a || (b || c)) ≡ ((a || b) || c)
-    assoc true b c = refl
-    assoc false b c = refl
+holds_append k (i ∷ is) js = ap (λ b. eqb i k || b) (holds_append k is js) ∙ sym (or_assoc (eqb i k) (holds k is) (holds k js))
 
 or_cases : (a b : Bool) (P : Type 0) → (T a → P) → (T b → P) → T (a || b) → P
 or_cases true b P f g h = f tt
@@ -186,6 +176,10 @@ cells_covered s x y z u v placed a b = same_test (holds (v * s.columns + u) (blo
         let n : v < y + height_mi z = ltb→lt v (y + height_mi z) (and_second (leb y v) _ rows) in
         holds_block s.columns wide x u v fits a high y (l, omega arith) m (omega arith)
 
+spot_columns : (s : State) (p : Spot) → (put_spot s p).columns ≡ s.columns
+spot_columns s (spot.Cell i c) = refl
+spot_columns s _ = refl
+
 -- a decision that sets each cell of its block to a value that hangs on the cell alone
 block_set : (h : ℕ → Cell) (s : State) (x y : ℕ) (z : BlockSize) → length s.cells ≡ units s → in_tile s x y z ≡ true
     → let next : State = put_spots s (map (λ i. spot.Cell i (h i)) (cells_of s x y z)) in
@@ -193,14 +187,10 @@ block_set : (h : ℕ → Cell) (s : State) (x y : ℕ) (z : BlockSize) → lengt
     × ((u v : ℕ) → u < s.columns → v < s.rows → unit_at next u v ≡ cond (covers x y z u v) (h (v * s.columns + u)) (unit_at s u v))
 block_set h s x y z mapped placed = (only_cells h (cells_of s x y z) s, one)
   where
-    columns_same : (is : List ℕ) (s : State) → (put_spots s (map (λ i. spot.Cell i (h i)) is)).columns ≡ s.columns
-    columns_same [] s = refl
-    columns_same (i ∷ is) s = columns_same is (put_spot s (spot.Cell i (h i)))
-
     one : (u v : ℕ) → u < s.columns → v < s.rows
         → unit_at (put_spots s (map (λ i. spot.Cell i (h i)) (cells_of s x y z))) u v ≡ cond (covers x y z u v) (h (v * s.columns + u)) (unit_at s u v)
     one u v a b =
-        ap (λ c. get_or (put_spots s (map (λ i. spot.Cell i (h i)) (cells_of s x y z))).cells (v * c + u) no_cell) (columns_same (cells_of s x y z) s)
+        ap (λ c. get_or (put_spots s (map (λ i. spot.Cell i (h i)) (cells_of s x y z))).cells (v * c + u) no_cell) (spots_still (λ (z : State). z.columns) spot_columns s (map (λ i. spot.Cell i (h i)) (cells_of s x y z)))
         ∙ set_all h (cells_of s x y z) s (v * s.columns + u) (cells_inside s x y z (true→T (in_tile s x y z) placed)) mapped
         ∙ ap (λ b. cond b (h (v * s.columns + u)) (unit_at s u v)) (cells_covered s x y z u v (true→T (in_tile s x y z) placed) a b)
 

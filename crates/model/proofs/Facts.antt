@@ -1,26 +1,27 @@
 -- Facts that code leans on, and relations in the standard's words.
-use Rattle.std.proofs.Common.{◌≡◌, ℕ, zero, suc, ◌+◌, ◌-◌, ◌*◌, ◌/◌, ◌%◌, ◌^◌, ◌<◌, ◌≤◌, min, Bool, true, false, cond, ◌&&◌, T, eqb, ltb, leb, List, [], ◌∷◌, map, length, sym, refl, ap, ◌∙◌, subst, mul_comm, mul-le-mul_left, mul-suc, arith, eqb→eq, ltb→lt, leb→le}
+use Rattle.std.proofs.Common.{◌≡◌, ℕ, zero, suc, ◌+◌, ◌-◌, ◌*◌, ◌/◌, ◌%◌, ◌^◌, ◌<◌, ◌≤◌, min, Bool, true, false, cond, ◌&&◌, T, eqb, ltb, leb, List, [], ◌∷◌, map, length, sym, refl, ap, ◌∙◌, subst, mul_comm, mul-le-mul_left, mul-suc, arith, eqb→eq, ltb→lt}
+use Rattle.std.proofs.lemmas.Bool.{and_parts, eqb-true, leb-true}
 use Rattle.std.proofs.lemmas.List.{length-map}
+use Rattle.cdf.proofs.Ranges.{all_below, true_below}
 use Rattle.cdf.specs.declared.entry.Entry.{Entry}
 use Rattle.av1.specs.declared.size.BlockSize.{BlockSize}
-use Rattle.av1.specs.declared.size.BlockSize.TheVariants.{BLOCK_4X4, BLOCK_4X8, BLOCK_8X4, BLOCK_8X8, BLOCK_8X16, BLOCK_16X8, BLOCK_16X16, BLOCK_16X32, BLOCK_32X16, BLOCK_32X32, BLOCK_32X64, BLOCK_64X32, BLOCK_64X64, BLOCK_64X128, BLOCK_128X64, BLOCK_128X128, BLOCK_4X16, BLOCK_16X4, BLOCK_8X32, BLOCK_32X8, BLOCK_16X64, BLOCK_64X16}
+use Rattle.av1.specs.declared.size.BlockSize.TheVariants.{BLOCK_4X4, BLOCK_8X8, BLOCK_16X16, BLOCK_32X32, BLOCK_64X64}
 use Rattle.journal.specs.declared.Spot.TheVariants as spot
 use Rattle.model.specs.declared.Question.TheVariants as of
 use Rattle.av1.specs.declared.refusal.Refusal.TheVariants as no
 use Rattle.av1.specs.Sides.{side}
 use Rattle.av1.specs.Sizes.{no_side_above, above_byte, fits_in, height, height_mi, left_byte, splits, width, width_mi}
-use Rattle.cdf.proofs.Booleans.{and_first, and_second, true→T}
-use Rattle.cdf.proofs.Layouts.{words_stay_sound}
+use Rattle.cdf.proofs.Booleans.{and_first, and_second}
 use Rattle.cdf.specs.Layout.{SoundWords, fillers, large_tables, lawful, small_tables, tables}
 use Rattle.cdf.specs.Lists.{Each, from}
 use Rattle.cdf.specs.Start.{start_words}
 use Rattle.cdf.specs.Words.{Words}
 use Rattle.model.proofs.Reading.{written_symbols}
-use Rattle.model.proofs.Staged.{spots_sound, stage_laws, words_sound}
+use Rattle.model.proofs.Staged.{after_sound, below_tables, spots_sound, stage_laws, words_sound}
 use Rattle.model.proofs.Standing.{or_else_first, or_else_second, unless_true}
 use Rattle.model.proofs.Trails.{each_append}
 use Rattle.model.proofs.TreeTables.{trees_in_layout}
-use Rattle.model.specs.Coders.{Coder, after, edge, fits, symbols, table_of, whole}
+use Rattle.model.specs.Coders.{after, fits, symbols, table_of}
 use Rattle.model.specs.Decisions.{above_length, above_place, left_length, left_place, longest, Decision, State, TablesIn, bit, block_cells, brings_map, cells_of, decided, in_tile, path, prediction, segment_number, segment_spot, skip_spot, spots, stage, tree, units, with_words}
 use Rattle.model.specs.Facts.{ContextBits, Counted, Faults, Inside, ReadsSound, ShortRun, SpotsInside}
 use Rattle.model.specs.Runs.{map_asked_if, sent, unless}
@@ -66,31 +67,14 @@ abbrev pub Bytes : ℕ → ℕ → BlockSize → Type 0
 Bytes x y z = (above_place x + width z / 8 ≤ 512) × ((y % 16) / 2 + height z / 8 ≤ 8)
 
 pub bytes_inside : (x y : ℕ) (z : BlockSize) → x < 1024 → T (splits 64 z) → x % width_mi z ≡ 0 → y % height_mi z ≡ 0 → Bytes x y z
-bytes_inside x y BLOCK_4X4 l h a b = absurd h
-bytes_inside x y BLOCK_4X8 l h a b = absurd h
-bytes_inside x y BLOCK_8X4 l h a b = absurd h
 bytes_inside x y BLOCK_8X8 l h a b = (omega arith, omega arith)
-bytes_inside x y BLOCK_8X16 l h a b = absurd h
-bytes_inside x y BLOCK_16X8 l h a b = absurd h
 bytes_inside x y BLOCK_16X16 l h a b = (omega arith, omega arith)
-bytes_inside x y BLOCK_16X32 l h a b = absurd h
-bytes_inside x y BLOCK_32X16 l h a b = absurd h
 bytes_inside x y BLOCK_32X32 l h a b = (omega arith, omega arith)
-bytes_inside x y BLOCK_32X64 l h a b = absurd h
-bytes_inside x y BLOCK_64X32 l h a b = absurd h
 bytes_inside x y BLOCK_64X64 l h a b = (omega arith, omega arith)
-bytes_inside x y BLOCK_64X128 l h a b = absurd h
-bytes_inside x y BLOCK_128X64 l h a b = absurd h
-bytes_inside x y BLOCK_128X128 l h a b = absurd h
-bytes_inside x y BLOCK_4X16 l h a b = absurd h
-bytes_inside x y BLOCK_16X4 l h a b = absurd h
-bytes_inside x y BLOCK_8X32 l h a b = absurd h
-bytes_inside x y BLOCK_32X8 l h a b = absurd h
-bytes_inside x y BLOCK_16X64 l h a b = absurd h
-bytes_inside x y BLOCK_64X16 l h a b = absurd h
+bytes_inside x y _ l h a b = absurd h
 
 pub side_most : (n : ℕ) → side n ≡ true → n ≤ 1024
-side_most n h = leb→le n 1024 (and_second (leb 2 n) _ (and_second (eqb (n % 2) 0) _ (true→T (side n) h)))
+side_most n h = leb-true n 1024 (and_parts (leb 2 n) _ (and_parts (eqb (n % 2) 0) _ h).1).1
 
 pub spots_inside : SpotsInside
 spots_inside s (of.Partition x y z) d sound ok = tt
@@ -126,21 +110,13 @@ abbrev Kept : {D : Type 0} → Answer D → Type 0
 Kept (read_as d w rest place) = SoundWords w
 Kept (faulty f) = Unit {0}
 
-after_sound : (w : Words) (k : Coder) (s : ℕ) (D : Type 0) (R : D → Type 0) (f : ℕ → Syntax D) → TablesIn R (coded k f) → SoundWords w → SoundWords (after w k s)
-after_sound w (whole t) s D R f h sound = words_stay_sound w t s h.0 sound
-after_sound w (edge t ss) s D R f h sound = sound
-
-below_tables : (k : Coder) (s : ℕ) (D : Type 0) (R : D → Type 0) (f : ℕ → Syntax D) → TablesIn R (coded k f) → s < symbols k → TablesIn R (f s)
-below_tables (whole t) s D R f h l = h.1 s l
-below_tables (edge t ss) s D R f h l = h.1 s l
-
 read_keeps : (D : Type 0) (R : D → Type 0) (w : Words) (t : Syntax D) (began last place : ℕ) (es : List Entry) → TablesIn R t → SoundWords w → Kept (read w t began last place es)
 read_keeps D R w (done d) began last place es h sound = sound
 read_keeps D R w (never n) began last place es h sound = tt
 read_keeps D R w (coded k f) began last place [] h sound = tt
 read_keeps D R w (coded k f) began last place (e ∷ es) h sound =
     go (fits w k e) (λ t. ltb→lt e.s (symbols k) (and_first (ltb e.s (symbols k)) _ t))
-    (λ l. read_keeps D R (after w k e.s) (f e.s) began (table_of k).first (suc place) es (below_tables k e.s D R f h l) (after_sound w k e.s D R f h sound))
+    (λ l. read_keeps D R (after w k e.s) (f e.s) began (table_of k).first (suc place) es (below_tables R k e.s f h l) (after_sound R w k e.s f h sound))
   where
     go : (b : Bool) → (T b → e.s < symbols k)
         → (e.s < symbols k → Kept (read (after w k e.s) (f e.s) began (table_of k).first (suc place) es))
@@ -159,45 +135,15 @@ abbrev bits_right : BlockSize → ℕ → Bool
 bits_right z j =
     eqb (bit j (above_byte z)) (cond (ltb (width z) (8 * 2 ^ j)) 1 0) && eqb (bit j (left_byte z)) (cond (ltb (height z) (8 * 2 ^ j)) 1 0)
 
-bits_test : (z : BlockSize) → T (bits_right z 0 && (bits_right z 1 && (bits_right z 2 && bits_right z 3)))
+bits_test : (z : BlockSize) → T (all_below 4 (bits_right z))
 bits_test BLOCK_4X4 = tt
-bits_test BLOCK_4X8 = tt
-bits_test BLOCK_8X4 = tt
-bits_test BLOCK_8X8 = tt
-bits_test BLOCK_8X16 = tt
-bits_test BLOCK_16X8 = tt
-bits_test BLOCK_16X16 = tt
-bits_test BLOCK_16X32 = tt
-bits_test BLOCK_32X16 = tt
-bits_test BLOCK_32X32 = tt
-bits_test BLOCK_32X64 = tt
-bits_test BLOCK_64X32 = tt
-bits_test BLOCK_64X64 = tt
-bits_test BLOCK_64X128 = tt
-bits_test BLOCK_128X64 = tt
-bits_test BLOCK_128X128 = tt
-bits_test BLOCK_4X16 = tt
-bits_test BLOCK_16X4 = tt
-bits_test BLOCK_8X32 = tt
-bits_test BLOCK_32X8 = tt
-bits_test BLOCK_16X64 = tt
-bits_test BLOCK_64X16 = tt
-
-bits_at : (z : BlockSize) (j : ℕ) → j < 4 → T (bits_right z j)
-bits_at z j h = go j h (bits_test z)
-  where
-    go : (j : ℕ) → j < 4 → T (bits_right z 0 && (bits_right z 1 && (bits_right z 2 && bits_right z 3))) → T (bits_right z j)
-    go zero h t = and_first (bits_right z 0) _ t
-    go (suc zero) h t = and_first (bits_right z 1) _ (and_second (bits_right z 0) _ t)
-    go (suc (suc zero)) h t = and_first (bits_right z 2) _ (and_second (bits_right z 1) _ (and_second (bits_right z 0) _ t))
-    go (suc (suc (suc zero))) h t = and_second (bits_right z 2) _ (and_second (bits_right z 1) _ (and_second (bits_right z 0) _ t))
-    go (suc (suc (suc (suc j)))) h t = absurd (omega arith)
+bits_test _ = tt
 
 pub context_bits : ContextBits
-context_bits z j h = (
-  eqb→eq (bit j (above_byte z)) (cond (ltb (width z) (8 * 2 ^ j)) 1 0) (and_first (eqb (bit j (above_byte z)) (cond (ltb (width z) (8 * 2 ^ j)) 1 0)) _ (bits_at z j h)),
-  eqb→eq (bit j (left_byte z)) (cond (ltb (height z) (8 * 2 ^ j)) 1 0) (and_second (eqb (bit j (above_byte z)) (cond (ltb (width z) (8 * 2 ^ j)) 1 0)) _ (bits_at z j h)),
-)
+context_bits z j h =
+    let both : (eqb (bit j (above_byte z)) (cond (ltb (width z) (8 * 2 ^ j)) 1 0) ≡ true) × (eqb (bit j (left_byte z)) (cond (ltb (height z) (8 * 2 ^ j)) 1 0) ≡ true) =
+    and_parts _ _ (true_below 4 (bits_right z) (bits_test z) j h) in
+    (eqb-true _ _ both.0, eqb-true _ _ both.1)
 
 pub faults : Faults
 unfolding start start_words prediction segment_number

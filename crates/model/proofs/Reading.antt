@@ -1,5 +1,5 @@
 -- The record reads back, and tells two runs apart.
-use Rattle.std.proofs.Common.{◌≡◌, ℕ, suc, ◌+◌, ◌≤◌, ◌≢◌, List, [], ◌∷◌, ◌++◌, map, length, sym, refl, ap, ◌∙◌, subst, subst₂, arith}
+use Rattle.std.proofs.Common.{zero-add, ◌≡◌, ℕ, suc, ◌+◌, ◌≤◌, ◌≢◌, List, [], ◌∷◌, ◌++◌, map, length, sym, refl, ap, ◌∙◌, subst, subst₂, arith}
 use mathlib.Core.Option.{none}
 use Rattle.std.proofs.lemmas.List.{append_assoc, append-nil, length-append, map-append, get_or_append_left}
 use Rattle.cdf.specs.declared.entry.Entry.{Entry}
@@ -9,16 +9,13 @@ use Rattle.model.proofs.Trees.{reads_back, tells_apart}
 use Rattle.model.specs.Coders.{after}
 use Rattle.model.specs.Runs.{Core, Laws, Ran, ReadsRecord, Standing, TellsRunsApart, all_read, empty_book, fresh, map_asked_if, next_state, question_of, read_asked, reads, run, sent, symbol, with_first, worked}
 use Rattle.model.specs.Subject.{Subject}
-use Rattle.model.specs.Tree.{Apart, Leads, Syntax, coded, done, never, read, read_as, written}
+use Rattle.model.specs.Tree.{Apart, Leads, Syntax, coded, done, read, read_as, written}
 
--- The record reads back, and tells two runs apart.
 -- the symbols of what is written are the path
 pub written_symbols : (D : Type 0) (S : Subject) (w : Words) (t : Syntax D) (p : List ℕ) (d : D) → Leads t p d → map (symbol S) (written w t p).entries ≡ p
 written_symbols D S w (done c) [] d h = refl
-written_symbols D S w (done c) (s ∷ p) d h = absurd h
-written_symbols D S w (never n) p d h = absurd h
-written_symbols D S w (coded k f) [] d h = absurd h
 written_symbols D S w (coded k f) (s ∷ p) d h = ap (λ z. s ∷ z) (written_symbols D S (after w k s) (f s) p d h.1)
+written_symbols D S w _ p d h = absurd h
 
 apart_behind : (a p q : List ℕ) → Apart p q → Apart (a ++ p) (a ++ q)
 apart_behind [] p q h = h
@@ -97,10 +94,7 @@ module _ (S : Subject) (L : Laws S) where
       let all : e.entries ≡ record_of start xs = reached_record memory room o xs e r in
       ap (λ z. reads S memory' start (map (question_of S) xs) z 0) (all ∙ sym (append-nil (record_of start xs)))
       ∙ reads_reached memory room memory' o xs e [] 0 enough sound r
-      ∙ ap (all_read xs e.state []) (zero_add (length (record_of start xs)) ∙ ap length (sym all))
-    where
-      zero_add : (n : ℕ) → 0 + n ≡ n
-      zero_add n = omega arith
+      ∙ ap (all_read xs e.state []) (zero-add (length (record_of start xs)) ∙ ap length (sym all))
 
   first_symbols : (memory : ℕ) (room : List Entry → ℕ) (c : Core S) (x : Standing S) (xs : List (Standing S)) → S.Sound c.state → Fine S L memory room c x
       → map (symbol S) (record_of c.state (x ∷ xs))
@@ -134,9 +128,9 @@ module _ (S : Subject) (L : Laws S) where
       let one : Ran S = run S memory room (fresh S start lent) (empty_book S) calls in
       let two : Ran S = run S memory' room' (fresh S start lent') (empty_book S) calls' in
       let r : Reached S L memory room o (same ++ said q d ∷ more) one.world.core =
-      subst (λ z. Reached S L memory room (record { state = start; entries = [] }) z (run S memory room (fresh S start lent) (empty_book S) calls).world.core) p (run_reached S L memory room start lent calls sound) in
+      subst (λ z. Reached S L memory room o z one.world.core) p (run_reached S L memory room start lent calls sound) in
       let r' : Reached S L memory' room' o (same ++ said q e ∷ more') two.world.core =
-      subst (λ z. Reached S L memory' room' (record { state = start; entries = [] }) z (run S memory' room' (fresh S start lent') (empty_book S) calls').world.core) p' (run_reached S L memory' room' start lent' calls' sound) in
+      subst (λ z. Reached S L memory' room' o z two.world.core) p' (run_reached S L memory' room' start lent' calls' sound) in
       subst₂ (λ u v. Apart (map (symbol S) u) (map (symbol S) v))
       (sym (reached_record memory room o (same ++ said q d ∷ more) one.world.core r)) (sym (reached_record memory' room' o (same ++ said q e ∷ more') two.world.core r'))
       (runs_apart memory memory' room room' o same q d e more more' one.world.core two.world.core sound r r' differ)

@@ -1,20 +1,19 @@
 -- Trials leave no trace: the invariant of a run, and that every call keeps it.
-use Rattle.std.proofs.Common.{◌≡◌, ℕ, ◌+◌, ◌≤◌, min, Bool, true, false, ◌&&◌, T, leb, List, [], ◌∷◌, ◌++◌, map, length, take, sym, refl, ap, ◌∙◌, subst, subst₂, arith, le→leb, leb→le}
+use Rattle.std.proofs.Common.{◌≡◌, ℕ, ◌+◌, ◌≤◌, Bool, true, false, ◌&&◌, T, leb, List, [], ◌∷◌, ◌++◌, map, length, take, sym, refl, ap, ◌∙◌, subst, subst₂, arith, le→leb, leb→le}
 use mathlib.Core.Path.{subst₃}
 use mathlib.Core.Option.{Option, none, some, none-ne-some}
 use lib.Seq.{take-length}
-use Rattle.std.proofs.lemmas.List.{length-take, length-append, take-take, take_all, drop_all, take-append-le, drop-append-le}
+use Rattle.std.proofs.lemmas.List.{length-take, length-take-le, length-append, take-take, take_all, drop_all, take-append-le, drop-append-le}
 use Rattle.cdf.specs.declared.entry.Entry.{Entry}
 use Rattle.av1.specs.declared.refusal.Refusal.{Refusal}
 use Rattle.av1.specs.declared.refusal.Refusal.TheVariants as no
 use Rattle.journal.specs.declared.Mark.{Mark}
 use Rattle.cdf.proofs.Booleans.{and_first, and_second}
 use Rattle.cdf.specs.Lists.{Each}
-use Rattle.model.proofs.Trails.{drop_between, each_any, each_append, each_drop, each_take, in_use_back, in_use_length, in_use_logged, memory_logged, taken_append, taken_back, taken_on, unwound_append, unwound_cross, unwound_sound, used_logged}
+use Rattle.model.proofs.Trails.{drop_between, take_between, each_any, each_append, each_drop, each_take, in_use_logged, memory_logged, taken_append, taken_back, taken_on, unwound_append, unwound_cross, unwound_sound, used_logged}
 use Rattle.model.specs.Runs.{Accepted, AllTaken, Asking, Book, Core, Lane, Laws, Lent, NoTrace, NonePassed, Ran, Standing, Taken, TrailOf, World, above, answered, as_call, ask, asked, back_to, below, done_call, empty_book, fresh, has_room, in_use, keep, lanes_hold, logged, map_asked, map_asked_if, moment, next_state, noted, open_questions, open_trial, or_else, refusal, run, sent, step, take_back, told, trail_of, undone, undone_state, unless, unused, unwound, worked}
 use Rattle.model.specs.Subject.{Subject, Trail}
 
--- Trials leave no trace.
 pub or_else_first : (a b : Option Refusal) → or_else a b ≡ none → a ≡ none
 or_else_first none b h = refl
 or_else_first (some n) b h = h
@@ -46,24 +45,33 @@ module _ (S : Subject) (L : Laws S) where
   abbrev Own : TrailOf S → Type 0
   Own t = Each S.InSmall t.small × Each S.InLarge t.large
 
+  -- records of two lanes pass each other
+  large_past_small : (s : S.State) (as' : List S.Small) (bs : List S.Large) → S.Sound s → Each S.InSmall as' → Each S.InLarge bs
+      → unwound S.put_large (unwound S.put_small s as') bs ≡ unwound S.put_small (unwound S.put_large s bs) as'
+  large_past_small s as' bs = unwound_cross S.Sound S.InSmall S.InLarge S.put_small S.put_large L.small_sound L.large_sound L.small_large s bs as'
+
+  spot_past_small : (s : S.State) (as' : List S.Small) (cs : List S.Spot) → S.Sound s → unwound S.put_spot (unwound S.put_small s as') cs ≡ unwound S.put_small (unwound S.put_spot s cs) as'
+  spot_past_small s as' cs sound =
+      unwound_cross S.Sound (λ a. Unit {0}) (λ c. Unit {0}) S.put_small S.put_spot L.small_sound L.spot_sound (λ s a c h i j. L.small_spot s a c) s cs as' sound (each_any as') (each_any cs)
+
+  spot_past_large : (s : S.State) (bs : List S.Large) (cs : List S.Spot) → S.Sound s → unwound S.put_spot (unwound S.put_large s bs) cs ≡ unwound S.put_large (unwound S.put_spot s cs) bs
+  spot_past_large s bs cs sound =
+      unwound_cross S.Sound (λ b. Unit {0}) (λ c. Unit {0}) S.put_large S.put_spot L.large_sound L.spot_sound (λ s b c h i j. L.large_spot s b c) s cs bs sound (each_any bs) (each_any cs)
+
+  smalls_sound : (s : S.State) (as' : List S.Small) → S.Sound s → S.Sound (unwound S.put_small s as')
+  smalls_sound s as' = unwound_sound S.Sound S.put_small L.small_sound s as'
+
+  larges_sound : (s : S.State) (bs : List S.Large) → S.Sound s → S.Sound (unwound S.put_large s bs)
+  larges_sound s bs = unwound_sound S.Sound S.put_large L.large_sound s bs
+
   unwound_joined : (s : S.State) (t u : TrailOf S) → S.Sound s → Own t → Own u → undone_state S s (joined t u) ≡ undone_state S (undone_state S s u) t
   unwound_joined s t u sound own own' =
       unwound_append C (unwound B (unwound A s (t.small ++ u.small)) (t.large ++ u.large)) t.spots u.spots
       ∙ ap (λ z. unwound C (unwound C z u.spots) t.spots) (unwound_append B (unwound A s (t.small ++ u.small)) t.large u.large)
       ∙ ap (λ z. unwound C (unwound C (unwound B (unwound B z u.large) t.large) u.spots) t.spots) (unwound_append A s t.small u.small)
-      ∙ ap (λ z. unwound C (unwound C (unwound B z t.large) u.spots) t.spots)
-      (unwound_cross S.Sound S.InSmall S.InLarge A B L.small_sound L.large_sound L.small_large (unwound A s u.small) u.large t.small
-      (unwound_sound S.Sound A L.small_sound s u.small sound) own.0 own'.1)
-      ∙ ap (λ z. unwound C z t.spots)
-      (unwound_cross S.Sound (λ b. Unit {0}) (λ c. Unit {0}) B C L.large_sound L.spot_sound (λ s b c h i j. L.large_spot s b c)
-      (unwound A (unwound B (unwound A s u.small) u.large) t.small) u.spots t.large
-      (unwound_sound S.Sound A L.small_sound _ t.small (unwound_sound S.Sound B L.large_sound _ u.large (unwound_sound S.Sound A L.small_sound s u.small sound)))
-      (each_any t.large) (each_any u.spots))
-      ∙ ap (λ z. unwound C (unwound B z t.large) t.spots)
-      (unwound_cross S.Sound (λ a. Unit {0}) (λ c. Unit {0}) A C L.small_sound L.spot_sound (λ s a c h i j. L.small_spot s a c)
-      (unwound B (unwound A s u.small) u.large) u.spots t.small
-      (unwound_sound S.Sound B L.large_sound _ u.large (unwound_sound S.Sound A L.small_sound s u.small sound))
-      (each_any t.small) (each_any u.spots))
+      ∙ ap (λ z. unwound C (unwound C (unwound B z t.large) u.spots) t.spots) (large_past_small y t.small u.large y_sound own.0 own'.1)
+      ∙ ap (λ z. unwound C z t.spots) (spot_past_large (unwound A z t.small) t.large u.spots (smalls_sound z t.small z_sound))
+      ∙ ap (λ z. unwound C (unwound B z t.large) t.spots) (spot_past_small z t.small u.spots z_sound)
     where
       A : S.State → S.Small → S.State
       A = S.put_small
@@ -73,6 +81,18 @@ module _ (S : Subject) (L : Laws S) where
 
       C : S.State → S.Spot → S.State
       C = S.put_spot
+
+      y : S.State
+      y = unwound A s u.small
+
+      y_sound : S.Sound y
+      y_sound = smalls_sound s u.small sound
+
+      z : S.State
+      z = unwound B y u.large
+
+      z_sound : S.Sound z
+      z_sound = larges_sound y u.large y_sound
 
   -- nothing is passed over in two trails one after the other
   taken_joined : (s : S.State) (t u : TrailOf S) → S.Sound s → Own t → Own u → AllTaken S s u → AllTaken S (undone_state S s u) t → AllTaken S s (joined t u)
@@ -97,13 +117,13 @@ module _ (S : Subject) (L : Laws S) where
       y = unwound A s u.small
 
       y_sound : S.Sound y
-      y_sound = unwound_sound S.Sound A L.small_sound s u.small sound
+      y_sound = smalls_sound s u.small sound
 
       z : S.State
       z = unwound B y u.large
 
       z_sound : S.Sound z
-      z_sound = unwound_sound S.Sound B L.large_sound y u.large y_sound
+      z_sound = larges_sound y u.large y_sound
 
       first : Taken S.takes_small A y t.small
       first =
@@ -113,13 +133,10 @@ module _ (S : Subject) (L : Laws S) where
 
       second : Taken S.takes_large B (unwound B (unwound A y t.small) u.large) t.large
       second =
-          subst (λ v. Taken S.takes_large B v t.large)
-          (sym (unwound_cross S.Sound S.InSmall S.InLarge A B L.small_sound L.large_sound L.small_large y u.large t.small y_sound own.0 own'.1))
+          subst (λ v. Taken S.takes_large B v t.large) (sym (large_past_small y t.small u.large y_sound own.0 own'.1))
           (taken_back S.Sound (λ b. Unit {0}) (λ c. Unit {0}) S.takes_large B C L.large_sound L.spot_sound (λ s b c h p o. L.large_spot s b c) (λ s b c h p o. L.takes_large_spot s b c)
-          (unwound A z t.small) u.spots t.large (unwound_sound S.Sound A L.small_sound z t.small z_sound) (each_any u.spots) (each_any t.large)
-          (subst (λ v. Taken S.takes_large B v t.large)
-          (sym (unwound_cross S.Sound (λ a. Unit {0}) (λ c. Unit {0}) A C L.small_sound L.spot_sound (λ s a c h p o. L.small_spot s a c) z u.spots t.small z_sound (each_any t.small) (each_any u.spots)))
-          k.1))
+          (unwound A z t.small) u.spots t.large (smalls_sound z t.small z_sound) (each_any u.spots) (each_any t.large)
+          (subst (λ v. Taken S.takes_large B v t.large) (sym (spot_past_small z t.small u.spots z_sound)) k.1))
 
   own_above : (t : TrailOf S) (m : Mark) → Own t → Own (above S t m)
   own_above t m h = (each_drop S.InSmall m.used.small t.small h.0, each_drop S.InLarge m.used.large t.large h.1)
@@ -208,7 +225,7 @@ module _ (S : Subject) (L : Laws S) where
     good_none o c c' t t' xs xs' (n ∷ ns) g = g
 
     longer : {A : Type 0} (n : ℕ) (xs ys : List A) → n ≤ length xs → n ≤ length (xs ++ ys)
-    longer n xs ys h = rw length-append (omega arith)
+    longer n xs ys h = omega (arith, length-append xs ys)
 
     good_worked : (o c : Core S) (t : TrailOf S) (xs : List (Standing S)) (ms : List Mark) (ns : List ℕ) (x : Standing S) → Own t → S.Sound c.state → Fine c x
         → Good o c t xs ms ns → Good o (worked S c x) (joined t (trail_at c x)) (xs ++ x ∷ []) ms ns
@@ -249,10 +266,10 @@ module _ (S : Subject) (L : Laws S) where
     )
 
     at_most : {A : Type 0} (n : ℕ) (xs : List A) → length (take n xs) ≤ n
-    at_most n xs = rw length-take (omega arith)
+    at_most n xs = omega (arith, length-take n xs)
 
     at_least : {A : Type 0} (n : ℕ) (xs : List A) → n ≤ length xs → n ≤ length (take n xs)
-    at_least n xs h = rw length-take (omega arith)
+    at_least n xs h = omega (arith, length-take n xs)
 
     good_back : (o c : Core S) (t : TrailOf S) (xs : List (Standing S)) (m : Mark) (ms : List Mark) (n : ℕ) (ns : List ℕ)
         → Good o c t xs (m ∷ ms) (n ∷ ns) → Good o (undone S c t m) (below S t m) (take n xs) (m ∷ ms) (n ∷ ns)
@@ -273,47 +290,31 @@ module _ (S : Subject) (L : Laws S) where
           none_above (undone S c t m) (below S t m) m k,
         )
 
-    undone_twice : (c : Core S) (t : TrailOf S) (m n : Mark) → S.Sound c.state → Own t → Within t m → Within (below S t m) n → n.entries ≤ length (take m.entries c.entries)
-        → undone S (undone S c t m) (below S t m) n ≡ undone S c t n
-    undone_twice c t m n sound own h k e =
-        core_path
-        (sym (unwound_joined c.state (above S (below S t m) n) (above S t m) sound (own_above (below S t m) n (own_below t m own)) (own_above t m own))
-        ∙ ap (undone_state S c.state)
-        (sym (trail_path
-        (drop_between n.used.small m.used.small t.small (fl_at k.0 (at_most m.used.small t.small)) h.0)
-        (drop_between n.used.large m.used.large t.large (fl_at k.1 (at_most m.used.large t.large)) h.1)
-        (drop_between n.used.spots m.used.spots t.spots (fl_at k.2 (at_most m.used.spots t.spots)) h.2))))
-        (take-take n.entries m.entries c.entries (fl_at e (at_most m.entries c.entries)))
-      where
-        fl_at : {a b c : ℕ} → a ≤ b → b ≤ c → a ≤ c
-        fl_at p q = omega arith
-
-    above_twice : (t : TrailOf S) (m n : Mark) → Within t m → Within (below S t m) n → above S t n ≡ joined (above S (below S t m) n) (above S t m)
-    above_twice t m n h k =
-        trail_path
-        (drop_between n.used.small m.used.small t.small (fl_at k.0 (at_most m.used.small t.small)) h.0)
-        (drop_between n.used.large m.used.large t.large (fl_at k.1 (at_most m.used.large t.large)) h.1)
-        (drop_between n.used.spots m.used.spots t.spots (fl_at k.2 (at_most m.used.spots t.spots)) h.2)
-      where
-        fl_at : {a b c : ℕ} → a ≤ b → b ≤ c → a ≤ c
-        fl_at p q = omega arith
+    above_twice : (t : TrailOf S) (m n : Mark) → Within (below S t m) n → above S t n ≡ joined (above S (below S t m) n) (above S t m)
+    above_twice t m n k =
+        trail_path (drop_between n.used.small m.used.small t.small k.0) (drop_between n.used.large m.used.large t.large k.1) (drop_between n.used.spots m.used.spots t.spots k.2)
 
     below_twice : (t : TrailOf S) (m n : Mark) → Within (below S t m) n → below S (below S t m) n ≡ below S t n
     below_twice t m n k =
-        trail_path (short n.used.small m.used.small t.small k.0) (short n.used.large m.used.large t.large k.1) (short n.used.spots m.used.spots t.spots k.2)
-      where
-        short : {A : Type 0} (n m : ℕ) (l : List A) → n ≤ length (take m l) → take n (take m l) ≡ take n l
-        short n m l h = let k : n ≤ min m (length l) = rw length-take at h in take-take n m l (omega arith)
+        trail_path (take_between n.used.small m.used.small t.small k.0) (take_between n.used.large m.used.large t.large k.1) (take_between n.used.spots m.used.spots t.spots k.2)
+
+    undone_twice : (c : Core S) (t : TrailOf S) (m n : Mark) → S.Sound c.state → Own t → Within (below S t m) n → n.entries ≤ length (take m.entries c.entries)
+        → undone S (undone S c t m) (below S t m) n ≡ undone S c t n
+    undone_twice c t m n sound own k e =
+        core_path
+        (sym (unwound_joined c.state (above S (below S t m) n) (above S t m) sound (own_above (below S t m) n (own_below t m own)) (own_above t m own))
+        ∙ ap (undone_state S c.state) (sym (above_twice t m n k)))
+        (take_between n.entries m.entries c.entries e)
 
     within_wider : {A : Type 0} (n m : ℕ) (l : List A) → n ≤ length (take m l) → n ≤ length l
-    within_wider n m l h = let k : n ≤ min m (length l) = rw length-take at h in omega arith
+    within_wider n m l h = omega (arith, length-take m l)
 
     good_kept : (o c : Core S) (t : TrailOf S) (xs : List (Standing S)) (m m' : Mark) (ms : List Mark) (n n' : ℕ) (ns : List ℕ)
         → S.Sound c.state → Own t → Good o c t xs (m ∷ m' ∷ ms) (n ∷ n' ∷ ns) → Good o c t xs (m' ∷ ms) (n' ∷ ns)
     good_kept o c t xs m m' ms n n' ns sound own g =
         let inner : Good o (undone S c t m) (below S t m) (take n xs) (m' ∷ ms) (n' ∷ ns) = g.4 in
-        let same_core : undone S (undone S c t m) (below S t m) m' ≡ undone S c t m' = undone_twice c t m m' sound own g.1 inner.1 inner.2 in
-        let same_calls : take n' (take n xs) ≡ take n' xs = shorter in (
+        let same_core : undone S (undone S c t m) (below S t m) m' ≡ undone S c t m' = undone_twice c t m m' sound own inner.1 inner.2 in
+        let same_calls : take n' (take n xs) ≡ take n' xs = take_between n' n xs g.4.0 in (
           within_wider n' n xs inner.0,
           (
             within_wider m'.used.small m.used.small t.small inner.1.0,
@@ -323,12 +324,9 @@ module _ (S : Subject) (L : Laws S) where
           within_wider m'.entries m.entries c.entries inner.2,
           subst₂ (Reached o) same_calls same_core inner.3,
           subst₃ (λ c t xs. Good o c t xs ms ns) same_core (below_twice t m m' inner.1) same_calls inner.4,
-          subst (AllTaken S c.state) (sym (above_twice t m m' g.1 inner.1))
+          subst (AllTaken S c.state) (sym (above_twice t m m' inner.1))
               (taken_joined c.state (above S (below S t m) m') (above S t m) sound (own_above (below S t m) m' (own_below t m own)) (own_above t m own) g.5 inner.5),
         )
-      where
-        shorter : take n' (take n xs) ≡ take n' xs
-        shorter = let k : n' ≤ min n (length xs) = rw length-take at g.4.0 in take-take n' n xs (omega arith)
 
     -- lanes: the records in use lie in the memory
     abbrev LaidLane : {R : Type 0} → Lane R → Type 0
@@ -352,10 +350,10 @@ module _ (S : Subject) (L : Laws S) where
     lane_used l rs h = in_use_logged rs l (leb→le (l.used + length rs) (length l.memory) h)
 
     lane_back : {R : Type 0} (l : Lane R) (n : ℕ) → n ≤ length (in_use l) → in_use (back_to l n) ≡ take n (in_use l)
-    lane_back l n h = let k : n ≤ min l.used (length l.memory) = rw length-take at h in in_use_back l n (omega arith)
+    lane_back l n h = sym (take_between n l.used l.memory h)
 
     lane_back_laid : {R : Type 0} (l : Lane R) (n : ℕ) → n ≤ length (in_use l) → LaidLane (back_to l n)
-    lane_back_laid l n h = let k : n ≤ min l.used (length l.memory) = rw length-take at h in omega arith
+    lane_back_laid l n h = within_wider n l.used l.memory h
 
     abbrev stage : Core S → Lane S.Small → Lane S.Large → Lane S.Spot → List Mark → World S
     stage c x y z ms = record { core = c; small = x; large = y; spots = z; marks = ms }
@@ -419,9 +417,9 @@ module _ (S : Subject) (L : Laws S) where
 
     opened_kept : (o : Core S) (w : World S) (b : Book S.Question S.Decision) → Inv o w b → Kept o w b open_trial
     opened_kept o w b i =
-        let x : length (in_use w.small) ≡ w.small.used = in_use_length w.small i.laid.0 in
-        let y : length (in_use w.large) ≡ w.large.used = in_use_length w.large i.laid.1 in
-        let z : length (in_use w.spots) ≡ w.spots.used = in_use_length w.spots i.laid.2 in
+        let x : length (in_use w.small) ≡ w.small.used = length-take-le w.small.used w.small.memory i.laid.0 in
+        let y : length (in_use w.large) ≡ w.large.used = length-take-le w.large.used w.large.memory i.laid.1 in
+        let z : length (in_use w.spots) ≡ w.spots.used = length-take-le w.spots.used w.spots.memory i.laid.2 in
         record {
           reached = i.reached;
           good =

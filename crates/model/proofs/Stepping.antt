@@ -1,18 +1,17 @@
 -- A decision is its symbols and then its spots.
-use Rattle.std.proofs.Common.{◌≡◌, ℕ, Bool, true, false, not, leb, List, [], ◌∷◌, ◌++◌, sym, refl, ap, ◌∙◌}
+use Rattle.std.proofs.Common.{◌≡◌, ℕ, Bool, true, false, List, [], ◌∷◌, ◌++◌, sym, refl, ap, ◌∙◌}
 use Rattle.std.proofs.lemmas.List.{append_assoc, append-nil}
 use Rattle.cdf.specs.declared.entry.Entry.{Entry}
 use Rattle.journal.specs.declared.Window.{Window}
 use Rattle.journal.specs.declared.Spot.{Spot}
 use Rattle.journal.specs.declared.Mark.{Mark}
 use Rattle.cdf.specs.Words.{Words}
-use Rattle.model.specs.Calls.{BySteps, StepsThen, large_log, log_if, small_log, spot_step, spot_steps, symbol_step, symbol_steps}
-use Rattle.model.specs.Coders.{after, edge, entry_of, whole}
-use Rattle.model.specs.Decisions.{Decision, State, add_if, decided, large_of, old_spot, old_spots, path, put_spot, put_spots, small_of, spots, stage, tree, window_at, with_words}
+use Rattle.model.specs.Calls.{BySteps, StepsThen, log_if, window_log, spot_step, spot_steps, symbol_step, symbol_steps}
+use Rattle.model.specs.Coders.{Coder, after, edge, entry_of, whole}
+use Rattle.model.specs.Decisions.{Decision, State, add_if, decided, is_large, is_small, large_of, old_spot, old_spots, path, put_spot, put_spots, small_of, spots, stage, tree, window_at, windows_of, with_words}
 use Rattle.model.specs.Runs.{Core, Lane, World, ask, done_call}
-use Rattle.model.specs.Tree.{Syntax, coded, done, never, read_by, written}
+use Rattle.model.specs.Tree.{Syntax, coded, done, read_by, written}
 
--- A decision is its symbols and then its spots.
 log_on : {R : Type 0} (ms : List Mark) (l : Lane R) (b : Bool) (r : R) (rs : List R) → log_if ms (log_if ms l (add_if b r [])) rs ≡ log_if ms l (add_if b r rs)
 log_on [] l b r rs = refl
 log_on (m ∷ ms) l true r rs = refl
@@ -21,6 +20,12 @@ log_on (m ∷ ms) l false r rs = refl
 log_none : {R : Type 0} (ms : List Mark) (l : Lane R) → log_if ms l [] ≡ l
 log_none [] l = refl
 log_none (m ∷ ms) l = refl
+
+-- the window of a symbol, and those of the symbols behind it
+log_step : {D : Type 0} (n : ℕ) (taken : ℕ → Bool) (ms : List Mark) (l : Lane (Window n)) (w : Words) (k : Coder) (f : ℕ → Syntax D) (s : ℕ) (p : List ℕ)
+    → log_if ms (log_if ms l (window_log n taken k w)) (windows_of n taken (after w k s) (f s) p) ≡ log_if ms l (windows_of n taken w (coded k f) (s ∷ p))
+log_step n taken ms l w (whole t) f s p = log_on ms l (taken t.count) (window_at n w t.first) (windows_of n taken (after w (whole t) s) (f s) p)
+log_step n taken ms l w (edge t ss) f s p = ap (λ m. log_if ms m (windows_of n taken w (f s) p)) (log_none ms l)
 
 -- the world after the symbols of a path
 abbrev coded_world : World stage → Words → List Entry → List (Window 4) → List (Window 16) → World stage
@@ -46,30 +51,14 @@ none_world w =
 
 steps_world : (D : Type 0) (t : Syntax D) (p : List ℕ) (w : World stage)
     → symbol_steps t p w ≡ coded_world w (written w.core.state.words t p).words (written w.core.state.words t p).entries (small_of w.core.state.words t p) (large_of w.core.state.words t p)
-steps_world D (done d) p w = none_world w
-steps_world D (never n) p w = none_world w
-steps_world D (coded k f) [] w = none_world w
-steps_world D (coded (whole t) f) (s ∷ p) w =
+steps_world D (coded k f) (s ∷ p) w =
     let v : Words = w.core.state.words in
-    let u : Words = after v (whole t) s in
+    let u : Words = after v k s in
     let es : List Entry = (written u (f s) p).entries in
-    steps_world D (f s) p (symbol_step (whole t) s w)
-    ∙ world_path w (written u (f s) p).words ((w.core.entries ++ entry_of v (whole t) s ∷ []) ++ es) (w.core.entries ++ entry_of v (whole t) s ∷ es)
-    (log_if w.marks (log_if w.marks w.small (small_log (whole t) v)) (small_of u (f s) p)) (log_if w.marks w.small (small_of v (coded (whole t) f) (s ∷ p)))
-    (log_if w.marks (log_if w.marks w.large (large_log (whole t) v)) (large_of u (f s) p)) (log_if w.marks w.large (large_of v (coded (whole t) f) (s ∷ p)))
-    (append_assoc w.core.entries (entry_of v (whole t) s ∷ []) es)
-    (log_on w.marks w.small (leb t.count 4) (window_at 4 v t.first) (small_of u (f s) p))
-    (log_on w.marks w.large (not (leb t.count 4)) (window_at 16 v t.first) (large_of u (f s) p))
-steps_world D (coded (edge t ss) f) (s ∷ p) w =
-    let v : Words = w.core.state.words in
-    let es : List Entry = (written v (f s) p).entries in
-    steps_world D (f s) p (symbol_step (edge t ss) s w)
-    ∙ world_path w (written v (f s) p).words ((w.core.entries ++ entry_of v (edge t ss) s ∷ []) ++ es) (w.core.entries ++ entry_of v (edge t ss) s ∷ es)
-    (log_if w.marks (log_if w.marks w.small []) (small_of v (f s) p)) (log_if w.marks w.small (small_of v (f s) p))
-    (log_if w.marks (log_if w.marks w.large []) (large_of v (f s) p)) (log_if w.marks w.large (large_of v (f s) p))
-    (append_assoc w.core.entries (entry_of v (edge t ss) s ∷ []) es)
-    (ap (λ l. log_if w.marks l (small_of v (f s) p)) (log_none w.marks w.small))
-    (ap (λ l. log_if w.marks l (large_of v (f s) p)) (log_none w.marks w.large))
+    steps_world D (f s) p (symbol_step k s w)
+    ∙ world_path w (written u (f s) p).words ((w.core.entries ++ entry_of v k s ∷ []) ++ es) (w.core.entries ++ entry_of v k s ∷ es) _ _ _ _
+    (append_assoc w.core.entries (entry_of v k s ∷ []) es) (log_step 4 is_small w.marks w.small v k f s p) (log_step 16 is_large w.marks w.large v k f s p)
+steps_world D _ p w = none_world w
 
 -- symbols change the words of a state alone
 pub symbols_state : (D : Type 0) (t : Syntax D) (p : List ℕ) (w : World stage) → (symbol_steps t p w).core.state ≡ with_words w.core.state (written w.core.state.words t p).words
@@ -130,14 +119,10 @@ by_steps w q given = go w.marks
 
 pub steps_then : (A B : Type 0) → StepsThen A B
 steps_then A B (done c) g [] q a w h = ap (λ x. symbol_steps (g x) q w) h
-steps_then A B (done c) g (s ∷ p) q a w h = absurd h
-steps_then A B (never n) g p q a w h = absurd h
-steps_then A B (coded k f) g [] q a w h = absurd h
 steps_then A B (coded k f) g (s ∷ p) q a w h = steps_then A B (f s) g p q a (symbol_step k s w) h.1
+steps_then A B _ g p q a w h = absurd h
 
 -- what is made of a syntax's decision takes no symbol
 pub steps_by : {A B : Type 0} (t : Syntax A) (g : A → B) (p : List ℕ) (w : World stage) → symbol_steps (read_by g t) p w ≡ symbol_steps t p w
-steps_by (done a) g p w = refl
-steps_by (never n) g p w = refl
-steps_by (coded k f) g [] w = refl
 steps_by (coded k f) g (s ∷ p) w = steps_by (f s) g p (symbol_step k s w)
+steps_by _ g p w = refl

@@ -1,10 +1,9 @@
 -- Undo records in lists and lanes.
 use Rattle.std.proofs.Common.{◌≡◌, ℕ, zero, suc, ◌+◌, ◌≤◌, Bool, List, [], ◌∷◌, ◌++◌, length, take, drop, set, sym, refl, ap, ◌∙◌, arith, take-suc-set}
-use Rattle.std.proofs.lemmas.List.{append_assoc, append-nil, length-set, length-take, take-take, drop-append-le, take-append-drop}
+use Rattle.std.proofs.lemmas.List.{append_assoc, append-nil, length-set, take-append-le, drop-append-le, take-append-drop}
 use Rattle.cdf.specs.Lists.{Each}
-use Rattle.model.specs.Runs.{Lane, Taken, back_to, in_use, logged, unwound}
+use Rattle.model.specs.Runs.{Lane, Taken, in_use, logged, unwound}
 
--- Undo records in lists and lanes.
 pub unwound_append : {X R : Type 0} (put : X → R → X) (s : X) (xs ys : List R) → unwound put s (xs ++ ys) ≡ unwound put (unwound put s ys) xs
 unwound_append put s [] ys = refl
 unwound_append put s (x ∷ xs) ys = ap (λ z. put z x) (unwound_append put s xs ys)
@@ -50,9 +49,12 @@ each_drop P (suc n) [] e = tt
 each_drop P (suc n) (x ∷ xs) e = each_drop P n xs e.1
 
 -- what is above an earlier mark is what lies between the two, and what is above the later
-pub drop_between : {R : Type 0} (n m : ℕ) (l : List R) → n ≤ m → m ≤ length l → drop n l ≡ drop n (take m l) ++ drop m l
-drop_between n m l h k =
-    ap (drop n) (sym (take-append-drop m l)) ∙ drop-append-le n (take m l) (drop m l) (rw length-take (omega arith))
+pub drop_between : {R : Type 0} (n m : ℕ) (l : List R) → n ≤ length (take m l) → drop n l ≡ drop n (take m l) ++ drop m l
+drop_between n m l h = ap (drop n) (sym (take-append-drop m l)) ∙ drop-append-le n (take m l) (drop m l) h
+
+-- what is below the earlier mark is below the later
+pub take_between : {R : Type 0} (n m : ℕ) (l : List R) → n ≤ length (take m l) → take n (take m l) ≡ take n l
+take_between n m l h = sym (take-append-le n (take m l) (drop m l) h) ∙ ap (take n) (take-append-drop m l)
 
 pub in_use_logged : {R : Type 0} (rs : List R) (l : Lane R) → l.used + length rs ≤ length l.memory → in_use (logged l rs) ≡ in_use l ++ rs
 in_use_logged [] l h = sym (append-nil (in_use l))
@@ -69,12 +71,6 @@ pub memory_logged : {R : Type 0} (rs : List R) (l : Lane R) → length (logged l
 memory_logged [] l = refl
 memory_logged (r ∷ rs) l = memory_logged rs (record { memory = set l.memory l.used r; used = suc l.used }) ∙ length-set l.memory l.used r
 
-pub in_use_back : {R : Type 0} (l : Lane R) (n : ℕ) → n ≤ l.used → in_use (back_to l n) ≡ take n (in_use l)
-in_use_back l n h = sym (take-take n l.used l.memory h)
-
-pub in_use_length : {R : Type 0} (l : Lane R) → l.used ≤ length l.memory → length (in_use l) ≡ l.used
-in_use_length l h = length-take l.used l.memory ∙ omega arith
-
 pub taken_append : {X R : Type 0} (takes : X → R → Bool) (put : X → R → X) (s : X) (xs ys : List R) → Taken takes put (unwound put s ys) xs → Taken takes put s ys → Taken takes put s (xs ++ ys)
 taken_append takes put s [] ys h k = k
 taken_append takes put s (x ∷ xs) ys h k = (ap (λ z. takes z x) (unwound_append put s xs ys) ∙ h.0, taken_append takes put s xs ys h.1 k)
@@ -84,26 +80,20 @@ module _ {X R Q : Type 0} (Sound : X → Type 0) (P : R → Type 0) (O : Q → T
     (keeps : (s : X) (r : R) → Sound s → Sound (put s r)) (keeps' : (s : X) (q : Q) → Sound s → Sound (other s q))
     (commute : (s : X) (r : R) (q : Q) → Sound s → P r → O q → other (put s r) q ≡ put (other s q) r)
     (still : (s : X) (r : R) (q : Q) → Sound s → P r → O q → takes (other s q) r ≡ takes s r) where
-  taken_one : (s : X) (q : Q) (rs : List R) → Sound s → O q → Each P rs → Taken takes put s rs → Taken takes put (other s q) rs
-  taken_one s q [] h o e t = tt
-  taken_one s q (r ∷ rs) h o e t = (
-    ap (λ z. takes z r) (sym (unwound_past Sound P put other keeps q (λ s r k p. commute s r q k p o) s rs h e.1))
-        ∙ still (unwound put s rs) r q (unwound_sound Sound put keeps s rs h) e.0 o ∙ t.0,
-    taken_one s q rs h o e.1 t.1,
-  )
+  still_behind : (s : X) (qs : List Q) (r : R) → Sound s → Each O qs → P r → takes (unwound other s qs) r ≡ takes s r
+  still_behind s [] r h o e = refl
+  still_behind s (q ∷ qs) r h o e = still (unwound other s qs) r q (unwound_sound Sound other keeps' s qs h) e o.0 ∙ still_behind s qs r h o.1 e
 
-  back_one : (s : X) (q : Q) (rs : List R) → Sound s → O q → Each P rs → Taken takes put (other s q) rs → Taken takes put s rs
-  back_one s q [] h o e t = tt
-  back_one s q (r ∷ rs) h o e t = (
-    sym (still (unwound put s rs) r q (unwound_sound Sound put keeps s rs h) e.0 o)
-        ∙ ap (λ z. takes z r) (unwound_past Sound P put other keeps q (λ s r k p. commute s r q k p o) s rs h e.1) ∙ t.0,
-    back_one s q rs h o e.1 t.1,
-  )
+  same_takes : (s : X) (qs : List Q) (r : R) (rs : List R) → Sound s → Each O qs → P r → Each P rs
+      → takes (unwound put (unwound other s qs) rs) r ≡ takes (unwound put s rs) r
+  same_takes s qs r rs h o p e =
+      ap (λ z. takes z r) (sym (unwound_cross Sound P O put other keeps keeps' commute s qs rs h e o))
+      ∙ still_behind (unwound put s rs) qs r (unwound_sound Sound put keeps s rs h) o p
 
   pub taken_on : (s : X) (qs : List Q) (rs : List R) → Sound s → Each O qs → Each P rs → Taken takes put s rs → Taken takes put (unwound other s qs) rs
-  taken_on s [] rs h o e t = t
-  taken_on s (q ∷ qs) rs h o e t = taken_one (unwound other s qs) q rs (unwound_sound Sound other keeps' s qs h) o.0 e (taken_on s qs rs h o.1 e t)
+  taken_on s qs [] h o e t = tt
+  taken_on s qs (r ∷ rs) h o e t = (same_takes s qs r rs h o e.0 e.1 ∙ t.0, taken_on s qs rs h o e.1 t.1)
 
   pub taken_back : (s : X) (qs : List Q) (rs : List R) → Sound s → Each O qs → Each P rs → Taken takes put (unwound other s qs) rs → Taken takes put s rs
-  taken_back s [] rs h o e t = t
-  taken_back s (q ∷ qs) rs h o e t = taken_back s qs rs h o.1 e (back_one (unwound other s qs) q rs (unwound_sound Sound other keeps' s qs h) o.0 e t)
+  taken_back s qs [] h o e t = tt
+  taken_back s qs (r ∷ rs) h o e t = (sym (same_takes s qs r rs h o e.0 e.1) ∙ t.0, taken_back s qs rs h o e.1 t.1)

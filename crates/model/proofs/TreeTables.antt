@@ -1,11 +1,11 @@
 -- Every table that a tree may name is one of the layout.
-use Rattle.std.proofs.Common.{◌≡◌, ℕ, zero, suc, ◌+◌, ◌*◌, ◌/◌, ◌%◌, ◌<◌, ◌≤◌, Bool, true, false, cond, not, ◌&&◌, ◌||◌, T, leb, get_or, ℤ, refl, subst, arith, leb→le}
+use Rattle.std.proofs.Common.{◌≡◌, ℕ, zero, suc, ◌+◌, ◌*◌, ◌/◌, ◌%◌, ◌<◌, ◌≤◌, Bool, true, false, cond, not, ◌&&◌, ◌||◌, T, leb, get_or, ℤ, sym, refl, subst, arith, leb→le}
 use mir.Val.{bool_byte}
 use Rattle.std.specs.declared.option.Option.TheVariants as maybe
 use Rattle.std.specs.declared.option.Option as std
 use Rattle.av1.specs.declared.tile.Cell.{Cell}
 use Rattle.av1.specs.declared.size.BlockSize.{BlockSize}
-use Rattle.av1.specs.declared.size.BlockSize.TheVariants.{BLOCK_4X4, BLOCK_4X8, BLOCK_8X4, BLOCK_8X8, BLOCK_8X16, BLOCK_16X8, BLOCK_16X16, BLOCK_16X32, BLOCK_32X16, BLOCK_32X32, BLOCK_32X64, BLOCK_64X32, BLOCK_64X64, BLOCK_64X128, BLOCK_128X64, BLOCK_128X128, BLOCK_4X16, BLOCK_16X4, BLOCK_8X32, BLOCK_32X8, BLOCK_16X64, BLOCK_64X16}
+use Rattle.av1.specs.declared.size.BlockSize.TheVariants.{BLOCK_4X4}
 use Rattle.av1.specs.declared.mv.MvSubpelPrecision.{MvSubpelPrecision}
 use Rattle.av1.specs.declared.mv.MvSubpelPrecision.TheVariants as at
 use Rattle.model.specs.declared.Question.TheVariants as of
@@ -14,9 +14,10 @@ use Rattle.av1.specs.Segments.{deinterleaved, same, negative, prev, segment_cont
 use Rattle.av1.specs.Tiles.{flag_of}
 use Rattle.av1.specs.Sizes.{level, splits}
 use Rattle.av1.specs.Vectors.{class_base, signed}
-use Rattle.cdf.proofs.Ranges.{true_below}
+use Rattle.cdf.proofs.Ranges.{all_below, true_below}
 use Rattle.cdf.specs.Layout.{row_base, col_base, table_sizes, in_layout}
 use Rattle.cdf.specs.Words.{Table, table}
+use Rattle.model.proofs.Trees.{by_then}
 use Rattle.model.proofs.Standing.{or_else_first, unless_true}
 use Rattle.model.specs.Alphas.{alpha_tree, alphas_tree}
 use Rattle.model.specs.Coders.{edge, whole}
@@ -64,21 +65,17 @@ pub record Base (b : ℕ) : Type 0 where
   pub four : (k : ℕ) → k < 3 → At (b + 28 + 4 * k) 4
   pub classes : At (b + 40) 11
 
+base_of : (b : ℕ) → T (all_below 14 (λ k. in_layout (table (b + 2 * k) 2))) → T (all_below 3 (λ k. in_layout (table (b + 28 + 4 * k) 4))) → At (b + 40) 11 → Base b
+base_of b two four classes =
+    record { two = true_below 14 (λ k. in_layout (table (b + 2 * k) 2)) two; four = true_below 3 (λ k. in_layout (table (b + 28 + 4 * k) 4)) four; classes = classes }
+
 pub base_row : Base row_base
 unfolding in_layout table_sizes
-base_row = record {
-  two = true_below 14 (λ k. in_layout (table (row_base + 2 * k) 2)) tt;
-  four = true_below 3 (λ k. in_layout (table (row_base + 28 + 4 * k) 4)) tt;
-  classes = refl;
-}
+base_row = base_of row_base tt tt refl
 
 pub base_col : Base col_base
 unfolding in_layout table_sizes
-base_col = record {
-  two = true_below 14 (λ k. in_layout (table (col_base + 2 * k) 2)) tt;
-  four = true_below 3 (λ k. in_layout (table (col_base + 28 + 4 * k) 4)) tt;
-  classes = refl;
-}
+base_col = base_of col_base tt tt refl
 
 -- trees one after the other
 tables_then : {A B : Type 0} (R : A → Type 0) (Q : B → Type 0) (t : Syntax A) (g : A → Syntax B) → TablesIn R t → ((a : A) → R a → TablesIn Q (g a)) → TablesIn Q (and_then t g)
@@ -88,10 +85,7 @@ tables_then R Q (coded (whole t) f) g h k = (h.0, λ s l. tables_then R Q (f s) 
 tables_then R Q (coded (edge t ss) f) g h k = (h.0, λ s l. tables_then R Q (f s) g (h.1 s l) k)
 
 tables_by : {A B : Type 0} (R : A → Type 0) (Q : B → Type 0) (t : Syntax A) (g : A → B) → TablesIn R t → ((a : A) → R a → Q (g a)) → TablesIn Q (read_by g t)
-tables_by R Q (done a) g h k = k a h
-tables_by R Q (never n) g h k = tt
-tables_by R Q (coded (whole t) f) g h k = (h.0, λ s l. tables_by R Q (f s) g (h.1 s l) k)
-tables_by R Q (coded (edge t ss) f) g h k = (h.0, λ s l. tables_by R Q (f s) g (h.1 s l) k)
+tables_by R Q t g h k = subst (TablesIn Q) (sym (by_then g t)) (tables_then R Q t (λ a. done (g a)) h k)
 
 abbrev Any : {A : Type 0} → A → Type 0
 Any a = Unit {0}
@@ -200,27 +194,7 @@ skip_small s x y =
 -- partitions
 level_test : (z : BlockSize) → T (not (splits 64 z) || leb (level z) 3)
 level_test BLOCK_4X4 = tt
-level_test BLOCK_4X8 = tt
-level_test BLOCK_8X4 = tt
-level_test BLOCK_8X8 = tt
-level_test BLOCK_8X16 = tt
-level_test BLOCK_16X8 = tt
-level_test BLOCK_16X16 = tt
-level_test BLOCK_16X32 = tt
-level_test BLOCK_32X16 = tt
-level_test BLOCK_32X32 = tt
-level_test BLOCK_32X64 = tt
-level_test BLOCK_64X32 = tt
-level_test BLOCK_64X64 = tt
-level_test BLOCK_64X128 = tt
-level_test BLOCK_128X64 = tt
-level_test BLOCK_128X128 = tt
-level_test BLOCK_4X16 = tt
-level_test BLOCK_16X4 = tt
-level_test BLOCK_8X32 = tt
-level_test BLOCK_32X8 = tt
-level_test BLOCK_16X64 = tt
-level_test BLOCK_64X16 = tt
+level_test _ = tt
 
 pub level_small : (z : BlockSize) → T (splits 64 z) → level z ≤ 3
 level_small z h = leb→le (level z) 3 (go (splits 64 z) h (level_test z))

@@ -1,5 +1,6 @@
 -- A vector's symbols lead to it.
-use Rattle.std.proofs.Common.{◌≡◌, ℕ, zero, suc, ◌+◌, ◌-◌, ◌*◌, ◌/◌, ◌%◌, ◌^◌, ◌<◌, ◌≤◌, Bool, true, false, cond, not, T, eqb, ltb, leb, ◌∷◌, ◌++◌, ℤ, pos, negsuc, sym, refl, ap, subst, pow-suc, arith, eqb→eq, ltb→lt, leb→le, nltb→le}
+use Rattle.std.proofs.lemmas.Bool.{true≢false, false≢true}
+use Rattle.std.proofs.Common.{◌≡◌, ℕ, zero, suc, ◌+◌, ◌-◌, ◌*◌, ◌/◌, ◌%◌, ◌^◌, ◌<◌, ◌≤◌, Bool, true, false, cond, not, T, eqb, ltb, leb, ◌∷◌, ◌++◌, ℤ, pos, negsuc, refl, ap, subst, pow-suc, arith, eqb→eq, ltb→lt, leb→le, nltb→le}
 use native.Mathlib.Nat.{pow-zero}
 use Rattle.av1.specs.declared.mv.MvSubpelPrecision.{MvSubpelPrecision}
 use Rattle.av1.specs.declared.mv.MvSubpelPrecision.TheVariants as at
@@ -9,7 +10,6 @@ use Rattle.model.proofs.Trees.{leads_by, leads_then}
 use Rattle.model.specs.Tree.{Leads, and_then, read_by}
 use Rattle.model.specs.Vector.{ComponentLeads, Fits, bits_of, bits_tree, class_width, component_if, component_path, component_tree, fits_precision, fraction_path, fraction_tree, has_col, has_row, high_path, high_tree, in_range, integer_path, integer_tree, path_if, present, step_of, vector_path, vector_tree}
 
--- A component's symbols lead to it.
 leads_bits : (n f v : ℕ) → v < 2 ^ n → Leads (bits_tree f n) (bits_of n v) v
 leads_bits zero f v h = let k : v < 1 = rw pow-zero at h in omega arith
 leads_bits (suc n) f v h =
@@ -112,36 +112,23 @@ fits_less at.MV_SUBPEL_HIGH_PRECISION z h = tt
 pub component_leads_if : (b : ℕ) (p : MvSubpelPrecision) (d : ℤ) → magnitude d ≤ 16384 → magnitude d % step_of p ≡ 0 → (c : Bool) → c ≡ present d
     → Leads (component_if c b p) (path_if p d) d
 component_leads_if b p (pos zero) h k false e = refl
-component_leads_if b p (pos zero) h k true e = absurd (true_false e)
-  where
-    true_false : true ≡ false → ⊥
-    true_false e = subst T e tt
+component_leads_if b p (pos zero) h k true e = absurd (true≢false e)
 component_leads_if b p (pos (suc z)) h k true e = component_leads b p 0 z (omega arith) (omega arith) (fits_less p z k)
-component_leads_if b p (pos (suc z)) h k false e = absurd (subst T (sym e) tt)
+component_leads_if b p (pos (suc z)) h k false e = absurd (false≢true e)
 component_leads_if b p (negsuc z) h k true e = component_leads b p 1 z (omega arith) (omega arith) (fits_less p z k)
-component_leads_if b p (negsuc z) h k false e = absurd (subst T (sym e) tt)
+component_leads_if b p (negsuc z) h k false e = absurd (false≢true e)
 
 pub joint_row : (row col : ℤ) → has_row (2 * nonzero row + nonzero col) ≡ present row
 joint_row (pos zero) (pos zero) = refl
-joint_row (pos zero) (pos (suc b)) = refl
-joint_row (pos zero) (negsuc b) = refl
 joint_row (pos (suc a)) (pos zero) = refl
-joint_row (pos (suc a)) (pos (suc b)) = refl
-joint_row (pos (suc a)) (negsuc b) = refl
 joint_row (negsuc a) (pos zero) = refl
-joint_row (negsuc a) (pos (suc b)) = refl
-joint_row (negsuc a) (negsuc b) = refl
+joint_row _ _ = refl
 
 pub joint_col : (row col : ℤ) → has_col (2 * nonzero row + nonzero col) ≡ present col
 joint_col (pos zero) (pos zero) = refl
-joint_col (pos zero) (pos (suc b)) = refl
-joint_col (pos zero) (negsuc b) = refl
 joint_col (pos (suc a)) (pos zero) = refl
-joint_col (pos (suc a)) (pos (suc b)) = refl
-joint_col (pos (suc a)) (negsuc b) = refl
 joint_col (negsuc a) (pos zero) = refl
-joint_col (negsuc a) (pos (suc b)) = refl
-joint_col (negsuc a) (negsuc b) = refl
+joint_col _ _ = refl
 
 pub joint_below : (row col : ℤ) → 2 * nonzero row + nonzero col < 4
 joint_below row col = let a : nonzero row ≤ 1 = at_most row in let b : nonzero col ≤ 1 = at_most col in omega arith

@@ -1,5 +1,5 @@
 -- A call by its single steps, and the public calls as functions of the world.
-use Rattle.std.specs.Prelude.{◌≡◌, ℕ, suc, Bool, true, not, List, [], ◌∷◌, ◌++◌, length, Ok, Err, Result, nat_le}
+use Rattle.std.specs.Prelude.{◌≡◌, ℕ, suc, Bool, true, List, [], ◌∷◌, ◌++◌, length, Ok, Err, Result}
 use Rattle.std.proofs.Math.Option.{Option, none, some}
 use Rattle.cdf.specs.declared.entry.Entry.{Entry}
 use Rattle.journal.specs.declared.Window.{Window}
@@ -13,7 +13,7 @@ use Rattle.model.specs.Coders.{Coder, whole, edge, entry_of, after}
 use Rattle.model.specs.Tree.{Syntax, done, never, coded, and_then, Leads, written}
 use Rattle.journal.specs.declared.Mark.{Mark}
 use Rattle.model.specs.Runs.{Lane, logged, ask, open_trial, take_back, keep, World, sent, refusal, done_call, step}
-use Rattle.model.specs.Decisions.{State, Decision, stage, with_words, window_at, add_if, put_spot, old_spot, tree, path, decided, spots}
+use Rattle.model.specs.Decisions.{State, Decision, stage, with_words, window_at, add_if, is_small, is_large, put_spot, old_spot, tree, path, decided, spots}
 
 -- what is logged while a trial is open
 abbrev pub log_if : {R : Type 0} → List Mark → Lane R → List R → Lane R
@@ -21,13 +21,15 @@ log_if [] l rs = l
 log_if (m ∷ ms) l rs = logged l rs
 
 -- the window that a symbol logs
+abbrev pub window_log : (n : ℕ) → (ℕ → Bool) → Coder → Words → List (Window n)
+window_log n taken (whole t) w = add_if (taken t.count) (window_at n w t.first) []
+window_log n taken (edge t ss) w = []
+
 abbrev pub small_log : Coder → Words → List (Window 4)
-small_log (whole t) w = add_if (nat_le t.count 4) (window_at 4 w t.first) []
-small_log (edge t ss) w = []
+small_log k w = window_log 4 is_small k w
 
 abbrev pub large_log : Coder → Words → List (Window 16)
-large_log (whole t) w = add_if (not (nat_le t.count 4)) (window_at 16 w t.first) []
-large_log (edge t ss) w = []
+large_log k w = window_log 16 is_large k w
 
 -- one symbol: its window is logged, its entry joins the record, and its table adapts
 abbrev pub symbol_step : Coder → ℕ → World stage → World stage

@@ -1,5 +1,5 @@
 -- The state of a tile, and what each decision means in it: its questions, its syntax, what it sets and what it logs.
-use Rattle.std.specs.Prelude.{◌≡◌, ℕ, zero, suc, ◌+◌, ◌*◌, ◌/◌, ◌%◌, ◌^◌, ◌<◌, ◌≤◌, min, Bool, true, false, cond, not, ◌&&◌, ◌||◌, T, List, [], ◌∷◌, ◌++◌, map, length, ℤ, ◌==◌, nat_le, nat_lt, slice_index, slice_index_or, slice_set}
+use Rattle.std.specs.Prelude.{◌≡◌, ℕ, zero, suc, ◌+◌, ◌*◌, ◌/◌, ◌%◌, ◌^◌, ◌<◌, ◌≤◌, min, Bool, true, false, cond, not, ◌&&◌, ◌||◌, T, List, [], ◌∷◌, ◌++◌, map, length, ℤ, ◌==◌, nat_le, nat_lt, slice_index, slice_index_or}
 use Rattle.std.proofs.Math.Option.{Option, none, some}
 use mir.Val.{bool_byte}
 use Rattle.std.specs.declared.option.Option as std
@@ -8,6 +8,7 @@ use Rattle.av1.specs.declared.tile.Cell.{Cell}
 use Rattle.journal.specs.declared.Window.{Window}
 use Rattle.journal.specs.declared.Spot.{Spot}
 use Rattle.journal.specs.declared.Spot.TheVariants as spot
+use Rattle.journal.specs.Spots.{put_below}
 use Rattle.av1.specs.declared.size.BlockSize.{BlockSize}
 use Rattle.model.specs.declared.Question.{Question}
 use Rattle.model.specs.declared.Question.TheVariants as of
@@ -75,16 +76,13 @@ abbrev pub with_words : State → Words → State
 with_words s w = record { columns = s.columns; rows = s.rows; last = s.last; words = w; above = s.above; left = s.left; cells = s.cells }
 
 -- a spot is set, or put back; passed over where it names a place outside
-abbrev pub put_at : {A : Type 0} → ℕ → ℕ → A → List A → List A
-put_at size i a l = cond (nat_lt i size) (slice_set l i a) l
-
 abbrev pub put_spot : State → Spot → State
 put_spot s (spot.Cell i c) =
-    record { columns = s.columns; rows = s.rows; last = s.last; words = s.words; above = s.above; left = s.left; cells = put_at (units s) i c s.cells }
+    record { columns = s.columns; rows = s.rows; last = s.last; words = s.words; above = s.above; left = s.left; cells = put_below (units s) i c s.cells }
 put_spot s (spot.Above i b) =
-    record { columns = s.columns; rows = s.rows; last = s.last; words = s.words; above = put_at (above_length s) i b s.above; left = s.left; cells = s.cells }
+    record { columns = s.columns; rows = s.rows; last = s.last; words = s.words; above = put_below (above_length s) i b s.above; left = s.left; cells = s.cells }
 put_spot s (spot.Left i b) =
-    record { columns = s.columns; rows = s.rows; last = s.last; words = s.words; above = s.above; left = put_at (left_length s) i b s.left; cells = s.cells }
+    record { columns = s.columns; rows = s.rows; last = s.last; words = s.words; above = s.above; left = put_below (left_length s) i b s.left; cells = s.cells }
 
 -- what stands at the spot
 abbrev pub old_spot : State → Spot → Spot
@@ -121,20 +119,26 @@ abbrev pub add_if : {A : Type 0} → Bool → A → List A → List A
 add_if true a as' = a ∷ as'
 add_if false a as' = as'
 
--- the windows of the tables that the symbols adapt: 4 words where the table has up to 4 symbols, else 16
+-- the windows of the tables that the symbols adapt, of those whose number of symbols is taken
+abbrev pub windows_of : {D : Type 0} → (n : ℕ) → (ℕ → Bool) → Words → Syntax D → List ℕ → List (Window n)
+windows_of n taken w (done d) p = []
+windows_of n taken w (never m) p = []
+windows_of n taken w (coded k f) [] = []
+windows_of n taken w (coded (whole t) f) (s ∷ p) = add_if (taken t.count) (window_at n w t.first) (windows_of n taken (after w (whole t) s) (f s) p)
+windows_of n taken w (coded (edge t ss) f) (s ∷ p) = windows_of n taken w (f s) p
+
+-- 4 words where the table has up to 4 symbols, else 16
+abbrev pub is_small : ℕ → Bool
+is_small count = nat_le count 4
+
+abbrev pub is_large : ℕ → Bool
+is_large count = not (nat_le count 4)
+
 abbrev pub small_of : {D : Type 0} → Words → Syntax D → List ℕ → List (Window 4)
-small_of w (done d) p = []
-small_of w (never n) p = []
-small_of w (coded k f) [] = []
-small_of w (coded (whole t) f) (s ∷ p) = add_if (nat_le t.count 4) (window_at 4 w t.first) (small_of (after w (whole t) s) (f s) p)
-small_of w (coded (edge t ss) f) (s ∷ p) = small_of w (f s) p
+small_of w t p = windows_of 4 is_small w t p
 
 abbrev pub large_of : {D : Type 0} → Words → Syntax D → List ℕ → List (Window 16)
-large_of w (done d) p = []
-large_of w (never n) p = []
-large_of w (coded k f) [] = []
-large_of w (coded (whole t) f) (s ∷ p) = add_if (not (nat_le t.count 4)) (window_at 16 w t.first) (large_of (after w (whole t) s) (f s) p)
-large_of w (coded (edge t ss) f) (s ∷ p) = large_of w (f s) p
+large_of w t p = windows_of 16 is_large w t p
 
 -- partitions by number
 abbrev pub HORZ : ℕ
