@@ -4,7 +4,7 @@
 
 mod table;
 
-use crate::table::{Case, cases};
+use crate::table::{Case, Wanted, cases};
 use anyhow::anyhow;
 use coding::code;
 use script::parse::parse;
@@ -21,33 +21,23 @@ fn printed(heap: Global, text: &str) -> anyhow::Result<String> {
     }
 }
 
-fn is_same(a: &str, b: &str) -> bool {
-    a == b
-}
-
 /// A line for each difference between what has to be printed and what came.
 fn differences(heap: Global, case: &Case, came: &str) -> anyhow::Result<String> {
     let mut out = String::new(heap);
-    let mut place = 0usize;
+    let mut wanted = case.wanted.iter();
     for line in came.lines() {
-        match case.wanted.get(place) {
-            Some(wanted) => {
-                let text = wanted.text.as_str();
-                if !is_same(line, text) {
-                    let at = wanted.line;
-                    writeln!(&mut out, "line {at}: expected '{text}', came '{line}'")?;
-                }
+        match wanted.next() {
+            Some(Wanted { text, .. }) if text.as_str() == line => {}
+            Some(Wanted { line: at, text }) => {
+                writeln!(&mut out, "line {at}: expected '{text}', came '{line}'")?;
             }
             None => {
                 let end = case.end;
                 writeln!(&mut out, "line {end}: expected nothing, came '{line}'")?;
             }
         }
-        place = place.saturating_add(1);
     }
-    for wanted in case.wanted.iter().skip(place) {
-        let at = wanted.line;
-        let text = wanted.text.as_str();
+    for Wanted { line: at, text } in wanted {
         writeln!(&mut out, "line {at}: expected '{text}', came nothing")?;
     }
     Ok(out)
@@ -62,19 +52,19 @@ fn run(rt: &HostRuntime) -> anyhow::Result<()> {
     };
     let table = fs::read_to_string(rt, path.as_str())?;
     let cases = cases(heap, table.as_str())?;
-    let mut equal = 0usize;
-    for case in cases.as_slice() {
+    let mut reports = Vec::new(heap);
+    for case in &cases {
         let came = match printed(heap, case.script.as_str()) {
             Ok(text) => text,
             Err(e) => e.to_string(heap)?,
         };
-        let differences = differences(heap, case, came.as_str())?;
-        if differences.is_empty() {
-            equal = equal.saturating_add(1);
-        }
-        rt.print(differences.as_str())?;
+        reports.push(differences(heap, case, came.as_str())?)?;
     }
-    let all = cases.len();
+    for report in &reports {
+        rt.print(report.as_str())?;
+    }
+    let equal = reports.iter().filter(|report| report.is_empty()).count();
+    let all = reports.len();
     println!(rt; "{equal} of {all} scripts as expected")?;
     if equal < all {
         return Err(anyhow!("not all scripts came out as expected"));

@@ -37,33 +37,33 @@ fn line_for(heap: Global, number: usize, line: &str) -> Result<Option<String>, A
 pub fn cases(heap: Global, table: &str) -> Result<Vec<Case>, AllocError> {
     let mut cases = Vec::new(heap);
     let mut script = String::new(heap);
-    let mut lines = Vec::new(heap);
-    let mut number = 0usize;
-    let mut end = 0usize;
-    for line in table.lines() {
-        end = end.saturating_add(1);
+    let mut wanted = Vec::new(heap);
+    // The line that ended the script before.
+    let mut before = 0;
+    for (i, line) in table.lines().enumerate() {
+        let at = i + 1;
         if line == "---" {
             cases.push(Case {
                 script,
-                wanted: lines,
-                end,
+                wanted,
+                end: at,
             })?;
             script = String::new(heap);
-            lines = Vec::new(heap);
-            number = 0;
+            wanted = Vec::new(heap);
+            before = at;
         } else {
-            number = number.saturating_add(1);
             script.push_str(line)?;
             script.push('\n')?;
-            if let Some(text) = line_for(heap, number, line)? {
-                lines.push(Wanted { line: end, text })?;
+            if let Some(text) = line_for(heap, at - before, line)? {
+                wanted.push(Wanted { line: at, text })?;
             }
         }
     }
+    let end = table.lines().count() + 1;
     cases.push(Case {
         script,
-        wanted: lines,
-        end: end.saturating_add(1),
+        wanted,
+        end,
     })?;
     Ok(cases)
 }

@@ -1,8 +1,11 @@
 -- The names of sizes, partitions, precisions, flags, calls and statements.
-use Rattle.std.specs.Prelude.{ℕ, Bool, true, false, cond, List, [], ◌∷◌, Some, None, codes, Option}
+use Rattle.std.specs.Prelude.{◌≡◌, ℕ, Bool, true, false, cond, List, [], ◌∷◌, Some, None, codes, Option, Result, refl}
+use Rattle.std.specs.List.{find}
+use Rattle.std.specs.Option.{ok_or}
 use Rattle.std.specs.Str.{bytes_eq}
-use Rattle.script.specs.declared.statement.Call.{Call}
-use Rattle.script.specs.declared.statement.Call.TheVariants.{Partition, Skip, Segment, Alphas, Vector, ContextUpdate, RowStart}
+use Rattle.av1.specs.declared.call.Call.{Call}
+use Rattle.av1.specs.declared.call.Call.TheVariants.{Partition, Skip, Segment, Alphas, Vector, ContextUpdate, RowStart, Open, TakeBack, Keep}
+use Rattle.script.specs.declared.fault.Fault.{Fault}
 use Rattle.script.specs.declared.statement.Statement.{Statement}
 use Rattle.script.specs.declared.statement.Statement.TheVariants as says
 use Rattle.av1.specs.declared.mv.MvSubpelPrecision.{MvSubpelPrecision}
@@ -71,17 +74,69 @@ flags = false ∷ true ∷ []
 
 -- the first of some values whose name is the word
 abbrev pub among : {A : Type 0} → (A → List ℕ) → List A → List ℕ → Option A
-among name [] w = None
-among name (a ∷ more) w = cond (bytes_eq w (name a)) (Some a) (among name more w)
+among name all w = find (λ a. bytes_eq w (name a)) all
+
+-- the value that the word names, and else the fault
+abbrev pub read_name : {A : Type 0} → (A → List ℕ) → List A → Fault → List ℕ → Result A Fault
+read_name name all f w = ok_or (among name all w) f
+
+-- each name finds its value
+pub size_found : (z : BlockSize) → among size_name sizes (size_name z) ≡ Some z
+size_found BLOCK_4X4 = refl
+size_found BLOCK_4X8 = refl
+size_found BLOCK_8X4 = refl
+size_found BLOCK_8X8 = refl
+size_found BLOCK_8X16 = refl
+size_found BLOCK_16X8 = refl
+size_found BLOCK_16X16 = refl
+size_found BLOCK_16X32 = refl
+size_found BLOCK_32X16 = refl
+size_found BLOCK_32X32 = refl
+size_found BLOCK_32X64 = refl
+size_found BLOCK_64X32 = refl
+size_found BLOCK_64X64 = refl
+size_found BLOCK_64X128 = refl
+size_found BLOCK_128X64 = refl
+size_found BLOCK_128X128 = refl
+size_found BLOCK_4X16 = refl
+size_found BLOCK_16X4 = refl
+size_found BLOCK_8X32 = refl
+size_found BLOCK_32X8 = refl
+size_found BLOCK_16X64 = refl
+size_found BLOCK_64X16 = refl
+
+pub partition_found : (p : PartitionType) → among partition_name partitions (partition_name p) ≡ Some p
+partition_found PARTITION_NONE = refl
+partition_found PARTITION_HORZ = refl
+partition_found PARTITION_VERT = refl
+partition_found PARTITION_SPLIT = refl
+partition_found PARTITION_HORZ_A = refl
+partition_found PARTITION_HORZ_B = refl
+partition_found PARTITION_VERT_A = refl
+partition_found PARTITION_VERT_B = refl
+partition_found PARTITION_HORZ_4 = refl
+partition_found PARTITION_VERT_4 = refl
+
+pub precision_found : (p : MvSubpelPrecision) → among precision_name precisions (precision_name p) ≡ Some p
+precision_found MV_SUBPEL_NONE = refl
+precision_found MV_SUBPEL_LOW_PRECISION = refl
+precision_found MV_SUBPEL_HIGH_PRECISION = refl
+
+pub flag_found : (b : Bool) → among flag_name flags (flag_name b) ≡ Some b
+flag_found false = refl
+flag_found true = refl
 
 abbrev pub call_name : Call → List ℕ
-call_name (Partition x y z p) = codes "partition"
-call_name (Skip x y z s) = codes "skip"
-call_name (Segment x y z i) = codes "segment"
+call_name (Partition bo z p) = codes "partition"
+call_name (Skip bo z s) = codes "skip"
+call_name (Segment bo z i) = codes "segment"
 call_name (Alphas u v) = codes "alphas"
 call_name (Vector r c p) = codes "vector"
-call_name (ContextUpdate x y z b) = codes "context"
+call_name (ContextUpdate bo z b) = codes "context"
 call_name RowStart = codes "row"
+call_name Open = codes "open"
+call_name (TakeBack d) = codes "back"
+call_name (Keep d) = codes "keep"
 
 abbrev pub statement_name : Statement → List ℕ
 statement_name says.Blank = []

@@ -10,7 +10,7 @@ use Rattle.script.specs.declared.fault.ScriptError.TheVariants as error
 use Rattle.script.specs.declared.head.Head.{Head}
 use Rattle.script.specs.declared.parse.Line.{Line}
 use Rattle.script.specs.declared.parse.Script.{Script}
-use Rattle.script.specs.declared.statement.Call.{Call}
+use Rattle.av1.specs.declared.call.Call.{Call}
 use Rattle.script.specs.declared.statement.Statement.{Statement}
 use Rattle.script.specs.declared.statement.Statement.TheVariants as says
 use Rattle.script.specs.Splits.{words_of}

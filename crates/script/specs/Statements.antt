@@ -1,24 +1,18 @@
 -- What a line says, by its words.
 use Rattle.std.specs.Prelude.{ℕ, Bool, cond, ◌||◌, List, [], ◌∷◌, drop, ℤ, Some, None, Ok, Err, codes, Option, Result}
-use Rattle.std.specs.Option.{ok_or}
 use Rattle.std.specs.Str.{bytes_eq}
 use Rattle.av1.specs.declared.mv.MvSubpelPrecision.{MvSubpelPrecision}
 use Rattle.av1.specs.declared.partition.PartitionType.{PartitionType}
 use Rattle.av1.specs.declared.size.BlockSize.{BlockSize}
 use Rattle.script.specs.declared.fault.Fault.{Fault}
 use Rattle.script.specs.declared.fault.Fault.TheVariants as no
-use Rattle.script.specs.declared.statement.Call.{Call}
-use Rattle.script.specs.declared.statement.Call.TheVariants.{Partition, Skip, Segment, Alphas, Vector, ContextUpdate, RowStart}
+use Rattle.av1.specs.declared.call.Call.{Call}
+use Rattle.av1.specs.declared.call.Call.TheVariants.{Partition, Skip, Segment, Alphas, Vector, ContextUpdate, RowStart}
+use Rattle.av1.specs.declared.tile.TileBlockOffset.{TileBlockOffset}
 use Rattle.script.specs.declared.statement.Statement.{Statement}
 use Rattle.script.specs.declared.statement.Statement.TheVariants as says
-use Rattle.script.specs.declared.statement.Words.{Words}
-use Rattle.script.specs.Names.{size_name, partition_name, precision_name, flag_name, sizes, partitions, precisions, flags, among}
+use Rattle.script.specs.Names.{size_name, partition_name, precision_name, flag_name, sizes, partitions, precisions, flags, read_name}
 use Rattle.script.specs.Numbers.{read_number, read_integer, read_id}
-use Rattle.script.specs.Splits.{texts}
-
--- the words of a line that are not read yet
-abbrev pub unread : Words → List (List ℕ)
-unread w = texts w.rest.now
 
 abbrev pub first : List (List ℕ) → Option (List ℕ)
 first [] = None
@@ -45,7 +39,7 @@ id_at ws = wanted read_id (first ws)
 
 -- one of some values, by its name
 abbrev pub named_at : {A : Type 0} → (A → List ℕ) → List A → Fault → List (List ℕ) → Result A Fault
-named_at name all f ws = wanted (λ w. ok_or (among name all w) f) (first ws)
+named_at name all f ws = wanted (read_name name all f) (first ws)
 
 abbrev pub size_at : List (List ℕ) → Result BlockSize Fault
 size_at ws = named_at size_name sizes no.UnknownSize ws
@@ -84,25 +78,28 @@ sink_from w ws = cond (bytes_eq w (codes "word")) (word_sink_at ws) (cond (bytes
 abbrev pub sink_at : List (List ℕ) → Result Statement Fault
 sink_at ws = wanted (λ w. sink_from w (drop 1 ws)) (first ws)
 
+-- a block's column and row
+abbrev pub offset_at : List (List ℕ) → Result TileBlockOffset Fault
+offset_at ws = and_then (number_at ws) (λ x. and_then (number_at (drop 1 ws)) (λ y. Ok (record { x = x; y = y })))
+
 -- a block's column, row and size, and what follows them
-abbrev pub block_then : (ℕ → ℕ → BlockSize → List (List ℕ) → Result Statement Fault) → List (List ℕ) → Result Statement Fault
+abbrev pub block_then : (TileBlockOffset → BlockSize → List (List ℕ) → Result Statement Fault) → List (List ℕ) → Result Statement Fault
 block_then k ws =
-    and_then (number_at ws) (λ x.
-    and_then (number_at (drop 1 ws)) (λ y.
-    and_then (size_at (drop 1 (drop 1 ws))) (λ z. k x y z (drop 1 (drop 1 (drop 1 ws))))))
+    and_then (offset_at ws) (λ bo.
+    and_then (size_at (drop 1 (drop 1 ws))) (λ z. k bo z (drop 1 (drop 1 (drop 1 ws)))))
 
 -- a call whose line ends here
 abbrev pub call_at : Call → List (List ℕ) → Result Statement Fault
 call_at call ws = and_then (end_at ws) (λ _. Ok (says.Call call))
 
 abbrev pub partition_at : List (List ℕ) → Result Statement Fault
-partition_at ws = block_then (λ x y z vs. and_then (partition_type_at vs) (λ p. call_at (Partition x y z p) (drop 1 vs))) ws
+partition_at ws = block_then (λ bo z vs. and_then (partition_type_at vs) (λ p. call_at (Partition bo z p) (drop 1 vs))) ws
 
 abbrev pub skip_at : List (List ℕ) → Result Statement Fault
-skip_at ws = block_then (λ x y z vs. and_then (flag_at vs) (λ s. call_at (Skip x y z s) (drop 1 vs))) ws
+skip_at ws = block_then (λ bo z vs. and_then (flag_at vs) (λ s. call_at (Skip bo z s) (drop 1 vs))) ws
 
 abbrev pub segment_at : List (List ℕ) → Result Statement Fault
-segment_at ws = block_then (λ x y z vs. and_then (id_at vs) (λ i. call_at (Segment x y z i) (drop 1 vs))) ws
+segment_at ws = block_then (λ bo z vs. and_then (id_at vs) (λ i. call_at (Segment bo z i) (drop 1 vs))) ws
 
 abbrev pub alphas_at : List (List ℕ) → Result Statement Fault
 alphas_at ws =
@@ -116,7 +113,7 @@ vector_at ws =
     and_then (precision_at (drop 1 (drop 1 ws))) (λ p. call_at (Vector r c p) (drop 1 (drop 1 (drop 1 ws))))))
 
 abbrev pub context_at : List (List ℕ) → Result Statement Fault
-context_at ws = block_then (λ x y z vs. and_then (size_at vs) (λ b. call_at (ContextUpdate x y z b) (drop 1 vs))) ws
+context_at ws = block_then (λ bo z vs. and_then (size_at vs) (λ b. call_at (ContextUpdate bo z b) (drop 1 vs))) ws
 
 abbrev pub row_at : List (List ℕ) → Result Statement Fault
 row_at ws = call_at RowStart ws

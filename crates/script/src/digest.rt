@@ -40,8 +40,7 @@ impl Digest {
         ensures after { self.new.hash ≡ step (step self.old.hash (word % 256)) (word / 256) }
         ensures digests { (bs : List ℕ) → Digests self.old.hash bs → Digests self.new.hash ((bs ++ (word % 256) ∷ []) ++ (word / 256) ∷ []) }
     {
-        self.byte((word % 256) as u8);
-        self.byte((word / 256) as u8);
+        self.bytes(&word.to_le_bytes());
     }
 
     /// Takes the bytes of a slice in order.
@@ -49,9 +48,7 @@ impl Digest {
         ensures after { self.new.hash ≡ steps self.old.hash bytes.now }
         ensures digests { (bs : List ℕ) → Digests self.old.hash bs → Digests self.new.hash (bs ++ bytes.now) }
     {
-        for byte in bytes {
-            self.byte(*byte);
-        }
+        self.hash = bytes.iter().copied().fold(self.hash, fnv1a);
     }
 
     /// The hash of the bytes so far.

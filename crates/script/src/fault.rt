@@ -34,11 +34,11 @@ pub enum Fault {
     LateSink,
 }
 
-impl Fault {
-    pub fn text(self) -> &'static str
-        ensures { result.now ≡ fault_text self }
-    {
-        match self {
+impl fmt::Display for Fault {
+    ghost output = { λ f. Some (fault_text f) };
+
+    fn fmt<W: fmt::Write>(&self, f: &mut fmt::Formatter<W>) -> fmt::Result {
+        f.write_str(match self {
             Fault::UnknownWord => "unknown word",
             Fault::NotSupported => "not supported yet:",
             Fault::MissingWord => "missing word after",
@@ -55,7 +55,7 @@ impl Fault {
             Fault::SecondTile => "second tile line:",
             Fault::SecondSink => "second sink line:",
             Fault::LateSink => "after the first call:",
-        }
+        })
     }
 }
 
@@ -106,8 +106,7 @@ impl fmt::Display for ScriptError {
         match self {
             ScriptError::Memory => f.write_str("out of memory"),
             ScriptError::Line { line, fault, word } => {
-                let text = fault.text();
-                write!(f, "line {line}: {text} '{word}'")
+                write!(f, "line {line}: {fault} '{word}'")
             }
         }
     }

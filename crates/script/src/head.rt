@@ -2,8 +2,9 @@ ghost use Rattle.std.specs.Prelude.{◌≡◌, MatchResult};
 ghost use Rattle.script.specs.Scripts.{start, settled, head_after, ReadsLine};
 
 use crate::fault::{Fault, ScriptError};
-use crate::split::split_words;
-use crate::statement::{Call, Statement, TileLine, Words};
+use crate::statement::{Statement, TileLine};
+use crate::words::Words;
+use av1::Call;
 use std::alloc::Global;
 
 /// What the lines so far have set.
@@ -60,15 +61,10 @@ impl Head {
     ) -> Result<Option<Call>, ScriptError>
         ensures { ReadsLine self.old number line.now result self.new }
     {
-        let words = split_words(heap, line)?;
-        let mut words = Words::new(words.as_slice());
-        let statement = match words.statement() {
-            Ok(statement) => statement,
-            Err(fault) => return Err(ScriptError::at(heap, number, fault, words.last())),
-        };
-        match self.take(statement) {
-            Ok(call) => Ok(call),
-            Err(fault) => Err(ScriptError::at(heap, number, fault, statement.word())),
-        }
+        let mut words = Words::new(line);
+        let read = words.statement();
+        let last = words.last();
+        let statement = read.map_err(|fault| ScriptError::at(heap, number, fault, last))?;
+        self.take(statement).map_err(|fault| ScriptError::at(heap, number, fault, statement.word()))
     }
 }

@@ -4,17 +4,19 @@
 pub mod digest;
 pub mod fault;
 mod head;
+pub mod name;
 pub mod parse;
 pub mod report;
-mod split;
 pub mod statement;
 pub mod word;
+mod words;
 
 pub use crate::digest::Digest;
 pub use crate::fault::{Fault, ScriptError};
+pub use crate::name::Named;
 pub use crate::parse::{Line, Script};
-pub use crate::report::{Answer, Answered, Recorded, StartRefused, State};
-pub use crate::statement::Call;
+pub use crate::report::{Answered, Recorded, StartRefused, State};
+pub use crate::word::Word;
 
 #[cfg(test)]
 mod tests;

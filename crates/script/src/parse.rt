@@ -1,8 +1,10 @@
+ghost use Rattle.std.specs.Prelude.{◌+◌, length};
+ghost use Rattle.std.specs.Str.Lines.{lines};
 ghost use Rattle.script.specs.Scripts.{Finishes, Parses};
 
 use crate::fault::{Fault, ScriptError};
 use crate::head::Head;
-use crate::statement::Call;
+use av1::Call;
 use std::alloc::Global;
 
 /// How many places a sink has where the script does not say.
@@ -25,11 +27,12 @@ pub struct Script {
     pub lines: Vec<Line>,
 }
 
-/// The script that the lines make, of which the last is the one before line `end`.
-fn finish(heap: Global, head: Head, end: usize, lines: Vec<Line>) -> Result<Script, ScriptError>
-    ensures { Finishes head end lines.items result }
+/// The script that the lines of a text make.
+fn finish(heap: Global, head: Head, text: &str, calls: Vec<Line>) -> Result<Script, ScriptError>
+    ensures { Finishes head (length (lines text.now) + 1) calls.items result }
 {
     let Some(tile) = head.tile else {
+        let end = text.lines().count() + 1;
         return Err(ScriptError::at(heap, end, Fault::NoTile, "end of script"));
     };
     Ok(Script {
@@ -37,7 +40,7 @@ fn finish(heap: Global, head: Head, end: usize, lines: Vec<Line>) -> Result<Scri
         rows: tile.rows,
         last: tile.last,
         places: head.places.unwrap_or(PLACES),
-        lines,
+        lines: calls,
     })
 }
 
@@ -47,12 +50,11 @@ pub fn parse(heap: Global, text: &str) -> Result<Script, ScriptError>
 {
     let mut head = Head::new();
     let mut lines = Vec::new(heap);
-    let mut number = 0;
-    for line in text.lines() {
-        number += 1;
+    for (i, line) in text.lines().enumerate() {
+        let number = i + 1;
         if let Some(call) = head.read_line(heap, number, line)? {
             lines.push(Line { number, call })?;
         }
     }
-    finish(heap, head, number + 1, lines)
+    finish(heap, head, text, lines)
 }

@@ -2,19 +2,8 @@ ghost use Rattle.std.specs.Prelude.{◌++◌, Some, codes, decimal};
 ghost use Rattle.av1.specs.Refusals.{number};
 ghost use Rattle.script.specs.Reports.{answer_text};
 
-use av1::Refusal;
+use av1::{Answer, Refusal};
 use std::fmt;
-
-/// What a call answers that was not refused.
-#[derive(Clone, Copy)]
-pub enum Answer {
-    /// Nothing more than that it was done.
-    Done,
-    /// A number: a count of entries, or a trial's depth.
-    Number(usize),
-    /// A segment's count of entries, and its id.
-    Segmented { count: usize, id: usize },
-}
 
 /// What the call of a line answered.
 #[derive(Clone, Copy)]
@@ -30,12 +19,9 @@ impl fmt::Display for Answered {
         let line = self.line;
         match self.answer {
             Ok(Answer::Done) => write!(f, "{line}: ok"),
-            Ok(Answer::Number(number)) => write!(f, "{line}: ok {number}"),
-            Ok(Answer::Segmented { count, id }) => write!(f, "{line}: ok {count} {id}"),
-            Err(refusal) => {
-                let code = refusal.number();
-                write!(f, "{line}: refused {code}")
-            }
+            Ok(Answer::Wrote(number) | Answer::Opened(number)) => write!(f, "{line}: ok {number}"),
+            Ok(Answer::Segmented { count, segment }) => write!(f, "{line}: ok {count} {segment}"),
+            Err(refusal) => write!(f, "{line}: refused {}", refusal.number()),
         }
     }
 }
@@ -48,8 +34,7 @@ impl fmt::Display for StartRefused {
     ghost output = { λ s. Some (codes "start refused " ++ decimal (number s.0)) };
 
     fn fmt<W: fmt::Write>(&self, f: &mut fmt::Formatter<W>) -> fmt::Result {
-        let code = self.0.number();
-        write!(f, "start refused {code}")
+        write!(f, "start refused {}", self.0.number())
     }
 }
 
@@ -64,9 +49,11 @@ impl fmt::Display for Recorded {
     ghost output = { λ s. Some (codes "record " ++ (decimal s.entries ++ (codes " entries, " ++ (decimal s.bytes ++ codes " bytes packed")))) };
 
     fn fmt<W: fmt::Write>(&self, f: &mut fmt::Formatter<W>) -> fmt::Result {
-        let entries = self.entries;
-        let bytes = self.bytes;
-        write!(f, "record {entries} entries, {bytes} bytes packed")
+        write!(
+            f,
+            "record {} entries, {} bytes packed",
+            self.entries, self.bytes
+        )
     }
 }
 
@@ -76,7 +63,6 @@ pub struct State(pub u64);
 
 impl fmt::Display for State {
     fn fmt<W: fmt::Write>(&self, f: &mut fmt::Formatter<W>) -> fmt::Result {
-        let digest = self.0;
-        write!(f, "state {digest:016x}")
+        write!(f, "state {:016x}", self.0)
     }
 }

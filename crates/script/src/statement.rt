@@ -1,69 +1,27 @@
-ghost use Rattle.std.specs.Prelude.{◌≡◌, drop};
-ghost use Rattle.std.specs.Option.{option_map};
+ghost use Rattle.std.specs.Prelude.{◌≡◌, drop, OnOk};
 ghost use Rattle.script.specs.Names.{call_name, statement_name};
-ghost use Rattle.script.specs.Splits.{texts};
-ghost use Rattle.script.specs.Statements.{first, unread, number_at, integer_at, id_at, size_at, partition_type_at, precision_at, flag_at, end_at, tile_at, sink_at, partition_at, skip_at, segment_at, alphas_at, vector_at, context_at, row_at, statement_of};
+ghost use Rattle.script.specs.Splits.{unread};
+ghost use Rattle.script.specs.Statements.{tile_at, sink_at, offset_at, call_at, partition_at, skip_at, segment_at, alphas_at, vector_at, context_at, statement_of};
 
 use crate::fault::Fault;
-use crate::word::{
-    parse_flag, parse_id, parse_integer, parse_number, parse_partition, parse_precision, parse_size,
-};
-use av1::{BlockSize, MvSubpelPrecision, PartitionType};
+use crate::words::Words;
+use av1::{Call, TileBlockOffset};
 
-/// One call.
-#[derive(Clone, Copy)]
-pub enum Call {
-    Partition {
-        x: usize,
-        y: usize,
-        bsize: BlockSize,
-        partition: PartitionType,
-    },
-    Skip {
-        x: usize,
-        y: usize,
-        bsize: BlockSize,
-        skip: bool,
-    },
-    Segment {
-        x: usize,
-        y: usize,
-        bsize: BlockSize,
-        /// None where the block is skipped.
-        id: Option<usize>,
-    },
-    Alphas {
-        u: i32,
-        v: i32,
-    },
-    Vector {
-        row: i32,
-        col: i32,
-        precision: MvSubpelPrecision,
-    },
-    ContextUpdate {
-        x: usize,
-        y: usize,
-        bsize: BlockSize,
-        subsize: BlockSize,
-    },
-    RowStart,
-}
-
-impl Call {
-    /// The word that the call's line begins with.
-    pub fn word(self) -> &'static str
-        ensures { result.now ≡ call_name self }
-    {
-        match self {
-            Call::Partition { .. } => "partition",
-            Call::Skip { .. } => "skip",
-            Call::Segment { .. } => "segment",
-            Call::Alphas { .. } => "alphas",
-            Call::Vector { .. } => "vector",
-            Call::ContextUpdate { .. } => "context",
-            Call::RowStart => "row",
-        }
+/// The word that the line of a call begins with.
+pub fn call_word(call: Call) -> &'static str
+    ensures { result.now ≡ call_name call }
+{
+    match call {
+        Call::Partition { .. } => "partition",
+        Call::Skip { .. } => "skip",
+        Call::Segment { .. } => "segment",
+        Call::Alphas { .. } => "alphas",
+        Call::Vector { .. } => "vector",
+        Call::ContextUpdate { .. } => "context",
+        Call::RowStart => "row",
+        Call::Open => "open",
+        Call::TakeBack { .. } => "back",
+        Call::Keep { .. } => "keep",
     }
 }
 
@@ -93,141 +51,37 @@ impl Statement {
             Statement::Blank => "",
             Statement::Tile(_) => "tile",
             Statement::Sink(_) => "sink",
-            Statement::Call(call) => call.word(),
+            Statement::Call(call) => call_word(call),
         }
     }
-}
-
-/// The words of a line that are not read yet, and the last one that was.
-#[derive(Drop)]
-pub(crate) struct Words<'a> {
-    rest: &'a [&'a str],
-    last: &'a str,
 }
 
 impl<'a> Words<'a> {
-    pub(crate) fn new(rest: &'a [&'a str]) -> Words<'a>
-        ensures { unread result ≡ texts rest.now }
+    /// X Y
+    fn offset(&mut self) -> Result<TileBlockOffset, Fault>
+        ensures value { result ≡ offset_at (unread self.old.rest) }
+        ensures after { OnOk result (unread self.new.rest ≡ drop 1 (drop 1 (unread self.old.rest))) }
     {
-        Words { rest, last: "" }
+        let x = self.read()?;
+        let y = self.read()?;
+        Ok(TileBlockOffset { x, y })
     }
 
-    /// The word that was read last.
-    pub(crate) fn last(&self) -> &'a str
-        ensures { result.now ≡ self.now.last.now }
+    /// A call, where the line ends here.
+    fn call(&mut self, call: Call) -> Result<Statement, Fault>
+        ensures { result ≡ call_at call (unread self.old.rest) }
     {
-        self.last
-    }
-
-    /// The next word.
-    fn next(&mut self) -> Option<&'a str>
-        ensures value { option_map (λ x. x.now) result ≡ first (unread self.old) }
-        ensures after { unread self.new ≡ drop 1 (unread self.old) }
-    {
-        match self.rest {
-            [word, rest @ ..] => {
-                self.rest = rest;
-                self.last = word;
-                Some(word)
-            }
-            [] => None,
-        }
-    }
-
-    /// The next word as a number.
-    fn number(&mut self) -> Result<usize, Fault>
-        ensures value { result ≡ number_at (unread self.old) }
-        ensures after { unread self.new ≡ drop 1 (unread self.old) }
-    {
-        match self.next() {
-            Some(word) => parse_number(word),
-            None => Err(Fault::MissingWord),
-        }
-    }
-
-    /// The next word as a number with or without a minus.
-    fn integer(&mut self) -> Result<i32, Fault>
-        ensures value { result ≡ integer_at (unread self.old) }
-        ensures after { unread self.new ≡ drop 1 (unread self.old) }
-    {
-        match self.next() {
-            Some(word) => parse_integer(word),
-            None => Err(Fault::MissingWord),
-        }
-    }
-
-    /// The next word as a segment's id.
-    fn id(&mut self) -> Result<Option<usize>, Fault>
-        ensures value { result ≡ id_at (unread self.old) }
-        ensures after { unread self.new ≡ drop 1 (unread self.old) }
-    {
-        match self.next() {
-            Some(word) => parse_id(word),
-            None => Err(Fault::MissingWord),
-        }
-    }
-
-    /// The next word as a size.
-    fn size(&mut self) -> Result<BlockSize, Fault>
-        ensures value { result ≡ size_at (unread self.old) }
-        ensures after { unread self.new ≡ drop 1 (unread self.old) }
-    {
-        match self.next() {
-            Some(word) => parse_size(word).ok_or(Fault::UnknownSize),
-            None => Err(Fault::MissingWord),
-        }
-    }
-
-    /// The next word as a partition.
-    fn partition_type(&mut self) -> Result<PartitionType, Fault>
-        ensures value { result ≡ partition_type_at (unread self.old) }
-        ensures after { unread self.new ≡ drop 1 (unread self.old) }
-    {
-        match self.next() {
-            Some(word) => parse_partition(word).ok_or(Fault::UnknownPartition),
-            None => Err(Fault::MissingWord),
-        }
-    }
-
-    /// The next word as a precision.
-    fn precision(&mut self) -> Result<MvSubpelPrecision, Fault>
-        ensures value { result ≡ precision_at (unread self.old) }
-        ensures after { unread self.new ≡ drop 1 (unread self.old) }
-    {
-        match self.next() {
-            Some(word) => parse_precision(word).ok_or(Fault::UnknownPrecision),
-            None => Err(Fault::MissingWord),
-        }
-    }
-
-    /// The next word as a flag.
-    fn flag(&mut self) -> Result<bool, Fault>
-        ensures value { result ≡ flag_at (unread self.old) }
-        ensures after { unread self.new ≡ drop 1 (unread self.old) }
-    {
-        match self.next() {
-            Some(word) => parse_flag(word).ok_or(Fault::NotAFlag),
-            None => Err(Fault::MissingWord),
-        }
-    }
-
-    /// Asks that the line ends here.
-    fn end(&mut self) -> Result<(), Fault>
-        ensures { result ≡ end_at (unread self.old) }
-    {
-        match self.next() {
-            Some(_) => Err(Fault::ExtraWord),
-            None => Ok(()),
-        }
+        self.end()?;
+        Ok(Statement::Call(call))
     }
 
     /// COLUMNS ROWS LAST
     fn tile(&mut self) -> Result<Statement, Fault>
-        ensures { result ≡ tile_at (unread self.old) }
+        ensures { result ≡ tile_at (unread self.old.rest) }
     {
-        let columns = self.number()?;
-        let rows = self.number()?;
-        let last = self.number()?;
+        let columns = self.read()?;
+        let rows = self.read()?;
+        let last = self.read()?;
         self.end()?;
         Ok(Statement::Tile(TileLine {
             columns,
@@ -238,14 +92,11 @@ impl<'a> Words<'a> {
 
     /// word PLACES
     fn sink(&mut self) -> Result<Statement, Fault>
-        ensures { result ≡ sink_at (unread self.old) }
+        ensures { result ≡ sink_at (unread self.old.rest) }
     {
-        let Some(kind) = self.next() else {
-            return Err(Fault::MissingWord);
-        };
-        match kind {
+        match self.next().ok_or(Fault::MissingWord)? {
             "word" => {
-                let places = self.number()?;
+                let places = self.read()?;
                 self.end()?;
                 Ok(Statement::Sink(places))
             }
@@ -256,98 +107,74 @@ impl<'a> Words<'a> {
 
     /// X Y SIZE PARTITION
     fn partition(&mut self) -> Result<Statement, Fault>
-        ensures { result ≡ partition_at (unread self.old) }
+        ensures { result ≡ partition_at (unread self.old.rest) }
     {
-        let x = self.number()?;
-        let y = self.number()?;
-        let bsize = self.size()?;
-        let partition = self.partition_type()?;
-        self.end()?;
-        Ok(Statement::Call(Call::Partition {
-            x,
-            y,
+        let bo = self.offset()?;
+        let bsize = self.read()?;
+        let partition = self.read()?;
+        self.call(Call::Partition {
+            bo,
             bsize,
             partition,
-        }))
+        })
     }
 
     /// X Y SIZE SKIP
     fn skip(&mut self) -> Result<Statement, Fault>
-        ensures { result ≡ skip_at (unread self.old) }
+        ensures { result ≡ skip_at (unread self.old.rest) }
     {
-        let x = self.number()?;
-        let y = self.number()?;
-        let bsize = self.size()?;
-        let skip = self.flag()?;
-        self.end()?;
-        Ok(Statement::Call(Call::Skip { x, y, bsize, skip }))
+        let bo = self.offset()?;
+        let bsize = self.read()?;
+        let skip = self.read()?;
+        self.call(Call::Skip { bo, bsize, skip })
     }
 
-    /// X Y SIZE ID, or `skipped` for the id
+    /// X Y SIZE SEGMENT, or `skipped` for the segment
     fn segment(&mut self) -> Result<Statement, Fault>
-        ensures { result ≡ segment_at (unread self.old) }
+        ensures { result ≡ segment_at (unread self.old.rest) }
     {
-        let x = self.number()?;
-        let y = self.number()?;
-        let bsize = self.size()?;
-        let id = self.id()?;
-        self.end()?;
-        Ok(Statement::Call(Call::Segment { x, y, bsize, id }))
+        let bo = self.offset()?;
+        let bsize = self.read()?;
+        let segment = self.read()?;
+        self.call(Call::Segment { bo, bsize, segment })
     }
 
     /// U V
     fn alphas(&mut self) -> Result<Statement, Fault>
-        ensures { result ≡ alphas_at (unread self.old) }
+        ensures { result ≡ alphas_at (unread self.old.rest) }
     {
-        let u = self.integer()?;
-        let v = self.integer()?;
-        self.end()?;
-        Ok(Statement::Call(Call::Alphas { u, v }))
+        let u = self.read()?;
+        let v = self.read()?;
+        self.call(Call::Alphas { u, v })
     }
 
     /// ROW COL PRECISION
     fn vector(&mut self) -> Result<Statement, Fault>
-        ensures { result ≡ vector_at (unread self.old) }
+        ensures { result ≡ vector_at (unread self.old.rest) }
     {
-        let row = self.integer()?;
-        let col = self.integer()?;
-        let precision = self.precision()?;
-        self.end()?;
-        Ok(Statement::Call(Call::Vector {
+        let row = self.read()?;
+        let col = self.read()?;
+        let precision = self.read()?;
+        self.call(Call::Vector {
             row,
             col,
             precision,
-        }))
+        })
     }
 
     /// X Y SIZE SUBSIZE
     fn context(&mut self) -> Result<Statement, Fault>
-        ensures { result ≡ context_at (unread self.old) }
+        ensures { result ≡ context_at (unread self.old.rest) }
     {
-        let x = self.number()?;
-        let y = self.number()?;
-        let bsize = self.size()?;
-        let subsize = self.size()?;
-        self.end()?;
-        Ok(Statement::Call(Call::ContextUpdate {
-            x,
-            y,
-            bsize,
-            subsize,
-        }))
-    }
-
-    /// Nothing more.
-    fn row(&mut self) -> Result<Statement, Fault>
-        ensures { result ≡ row_at (unread self.old) }
-    {
-        self.end()?;
-        Ok(Statement::Call(Call::RowStart))
+        let bo = self.offset()?;
+        let bsize = self.read()?;
+        let subsize = self.read()?;
+        self.call(Call::ContextUpdate { bo, bsize, subsize })
     }
 
     /// What the line says.
     pub(crate) fn statement(&mut self) -> Result<Statement, Fault>
-        ensures { result ≡ statement_of (unread self.old) }
+        ensures { result ≡ statement_of (unread self.old.rest) }
     {
         let Some(word) = self.next() else {
             return Ok(Statement::Blank);
@@ -361,7 +188,7 @@ impl<'a> Words<'a> {
             "alphas" => self.alphas(),
             "vector" => self.vector(),
             "context" => self.context(),
-            "row" => self.row(),
+            "row" => self.call(Call::RowStart),
             "log" | "open" | "back" | "keep" => Err(Fault::NotSupported),
             _ => Err(Fault::UnknownWord),
         }

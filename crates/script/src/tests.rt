@@ -1,9 +1,9 @@
 use crate::digest::Digest;
+use crate::name::Named;
 use crate::parse::parse;
-use crate::report::{Answer, Answered, Recorded, StartRefused, State};
-use crate::statement::Call;
-use crate::word::{parse_integer, parse_partition, parse_size, size_name};
-use av1::{MvSubpelPrecision, Refusal};
+use crate::report::{Answered, Recorded, StartRefused, State};
+use crate::word::Word;
+use av1::{Answer, BlockSize, Call, MvSubpelPrecision, PartitionType, Refusal, TileBlockOffset};
 use std::fmt::Display;
 use std::process::Abort;
 use std::test::Fail;
@@ -17,10 +17,10 @@ const SIZES: [&str; 22] = [
 #[test]
 fn sizes_are_read_as_written(rt: HostRuntime) -> Result<(), Fail> {
     for name in SIZES {
-        let size = parse_size(name).ok_or(name)?;
-        assert_eq!(rt; size_name(size), name);
+        let size = BlockSize::from_name(name).ok_or(name)?;
+        assert_eq!(rt; size.name(), name);
     }
-    assert!(rt; parse_size("64x64").is_none() && parse_size("").is_none());
+    assert!(rt; BlockSize::from_name("64x64").is_none() && BlockSize::from_name("").is_none());
     Ok(())
 }
 
@@ -32,10 +32,12 @@ fn a_script_is_read(rt: HostRuntime) -> Result<(), Fail> {
     assert_eq!(rt; (script.last, script.places), (7, 40));
     assert!(rt; script.lines.len() == 2);
     assert_eq!(rt; (script.lines[0].number, script.lines[1].number), (5, 6));
-    let Call::Skip { x, y, bsize, skip } = script.lines[0].call else {
-        return Err(Fail::new("not a skip"));
+    let skip = Call::Skip {
+        bo: TileBlockOffset { x: 4, y: 0 },
+        bsize: BlockSize::BLOCK_16X8,
+        skip: true,
     };
-    assert_eq!(rt; (x, y, size_name(bsize), skip), (4, 0, "16X8", true));
+    assert_eq!(rt; script.lines[0].call, skip);
     Ok(())
 }
 
@@ -47,19 +49,12 @@ const PARTITIONS: [&str; 10] = [
 #[test]
 fn partitions_are_read_as_numbered(rt: HostRuntime) -> Result<(), Fail> {
     for (number, name) in PARTITIONS.iter().enumerate() {
-        let partition = parse_partition(name).ok_or(*name)?;
+        let partition = PartitionType::from_name(name).ok_or(*name)?;
         assert_eq!(rt; partition.number(), number);
     }
-    assert!(rt; parse_partition("HORZ_C").is_none() && parse_partition("none").is_none());
+    assert!(rt; PartitionType::from_name("HORZ_C").is_none());
+    assert!(rt; PartitionType::from_name("none").is_none());
     Ok(())
-}
-
-fn precision_name(precision: MvSubpelPrecision) -> &'static str {
-    match precision {
-        MvSubpelPrecision::MV_SUBPEL_NONE => "NONE",
-        MvSubpelPrecision::MV_SUBPEL_LOW_PRECISION => "LOW",
-        MvSubpelPrecision::MV_SUBPEL_HIGH_PRECISION => "HIGH",
-    }
 }
 
 /// Words with or without a minus, and the number that is read, from end to end of the range.
@@ -75,72 +70,107 @@ const INTEGERS: [(&str, i32); 6] = [
 #[test]
 fn integers_are_read(rt: HostRuntime) {
     for (word, number) in INTEGERS {
-        assert!(rt; parse_integer(word).ok() == Some(number));
+        assert!(rt; i32::read(word).ok() == Some(number));
     }
-    assert!(rt; parse_integer("-").is_err() && parse_integer("--1").is_err());
+    assert!(rt; i32::read("-").is_err() && i32::read("--1").is_err());
 }
 
-/// The numbers of a call in the order of its line, a partition by its number and a skipped segment as -1.
-fn numbers(call: Call) -> (i128, i128, i128) {
-    match call {
+/// Lines and their calls. What no stage takes may stand in a script.
+const CALLS: [(&str, Call); 13] = [
+    (
+        "partition 4 8 32X32 VERT_A",
         Call::Partition {
-            x,
-            y,
-            partition,
-            ..
-        } => (x as i128, y as i128, partition.number() as i128),
-        Call::Skip { x, y, skip, .. } => (x as i128, y as i128, skip as i128),
-        Call::Segment { x, y, id, .. } => match id {
-            Some(id) => (x as i128, y as i128, id as i128),
-            None => (x as i128, y as i128, -1),
+            bo: TileBlockOffset { x: 4, y: 8 },
+            bsize: BlockSize::BLOCK_32X32,
+            partition: PartitionType::PARTITION_VERT_A,
         },
-        Call::Alphas { u, v } => (u as i128, v as i128, 0),
-        Call::Vector { row, col, .. } => (row as i128, col as i128, 0),
-        Call::ContextUpdate { x, y, .. } => (x as i128, y as i128, 0),
-        Call::RowStart => (0, 0, 0),
-    }
-}
-
-/// The names of a call in the order of its line, without that of a partition.
-fn names(call: Call) -> (&'static str, &'static str) {
-    match call {
-        Call::Partition { bsize, .. } => (size_name(bsize), ""),
-        Call::Skip { bsize, .. } => (size_name(bsize), ""),
-        Call::Segment { bsize, .. } => (size_name(bsize), ""),
-        Call::Alphas { .. } => ("", ""),
-        Call::Vector { precision, .. } => (precision_name(precision), ""),
-        Call::ContextUpdate { bsize, subsize, .. } => (size_name(bsize), size_name(subsize)),
-        Call::RowStart => ("", ""),
-    }
-}
-
-/// Calls with their numbers and names. What no stage takes may stand in a script.
-const CALLS: [(&str, (i128, i128, i128), (&str, &str)); 13] = [
-    ("partition 4 8 32X32 VERT_A", (4, 8, 6), ("32X32", "")),
-    ("partition 0 0 4X4 NONE", (0, 0, 0), ("4X4", "")),
-    ("skip 1 2 4X8 1", (1, 2, 1), ("4X8", "")),
-    ("segment 6 2 8X16 5", (6, 2, 5), ("8X16", "")),
-    ("segment 6 2 16X8 skipped", (6, 2, -1), ("16X8", "")),
-    ("segment 1 0 8X8 900", (1, 0, 900), ("8X8", "")),
-    ("alphas -13 4", (-13, 4, 0), ("", "")),
-    ("alphas 17 -0", (17, 0, 0), ("", "")),
-    ("vector -24 9432 NONE", (-24, 9432, 0), ("NONE", "")),
-    ("vector 20000 -1 LOW # far", (20000, -1, 0), ("LOW", "")),
-    ("vector 0 8 HIGH", (0, 8, 0), ("HIGH", "")),
-    ("context 8 4 32X32 4X8", (8, 4, 0), ("32X32", "4X8")),
-    ("\trow ", (0, 0, 0), ("", "")),
+    ),
+    (
+        "partition 0 0 4X4 NONE",
+        Call::Partition {
+            bo: TileBlockOffset { x: 0, y: 0 },
+            bsize: BlockSize::BLOCK_4X4,
+            partition: PartitionType::PARTITION_NONE,
+        },
+    ),
+    (
+        "skip 1 2 4X8 1",
+        Call::Skip {
+            bo: TileBlockOffset { x: 1, y: 2 },
+            bsize: BlockSize::BLOCK_4X8,
+            skip: true,
+        },
+    ),
+    (
+        "segment 6 2 8X16 5",
+        Call::Segment {
+            bo: TileBlockOffset { x: 6, y: 2 },
+            bsize: BlockSize::BLOCK_8X16,
+            segment: Some(5),
+        },
+    ),
+    (
+        "segment 6 2 16X8 skipped",
+        Call::Segment {
+            bo: TileBlockOffset { x: 6, y: 2 },
+            bsize: BlockSize::BLOCK_16X8,
+            segment: None,
+        },
+    ),
+    (
+        "segment 1 0 8X8 900",
+        Call::Segment {
+            bo: TileBlockOffset { x: 1, y: 0 },
+            bsize: BlockSize::BLOCK_8X8,
+            segment: Some(900),
+        },
+    ),
+    ("alphas -13 4", Call::Alphas { u: -13, v: 4 }),
+    ("alphas 17 -0", Call::Alphas { u: 17, v: 0 }),
+    (
+        "vector -24 9432 NONE",
+        Call::Vector {
+            row: -24,
+            col: 9432,
+            precision: MvSubpelPrecision::MV_SUBPEL_NONE,
+        },
+    ),
+    (
+        "vector 20000 -1 LOW # far",
+        Call::Vector {
+            row: 20000,
+            col: -1,
+            precision: MvSubpelPrecision::MV_SUBPEL_LOW_PRECISION,
+        },
+    ),
+    (
+        "vector 0 8 HIGH",
+        Call::Vector {
+            row: 0,
+            col: 8,
+            precision: MvSubpelPrecision::MV_SUBPEL_HIGH_PRECISION,
+        },
+    ),
+    (
+        "context 8 4 32X32 4X8",
+        Call::ContextUpdate {
+            bo: TileBlockOffset { x: 8, y: 4 },
+            bsize: BlockSize::BLOCK_32X32,
+            subsize: BlockSize::BLOCK_4X8,
+        },
+    ),
+    ("\trow ", Call::RowStart),
 ];
 
 #[test]
 fn calls_are_read(rt: HostRuntime) -> Result<(), Fail> {
     let heap = rt.alloc();
-    for (line, wanted, named) in CALLS {
+    for (line, wanted) in CALLS {
         let mut text = String::from_str(heap, "tile 8 8 7\n")?;
         text.push_str(line)?;
         let script = parse(heap, text.as_str())?;
         assert!(rt; script.lines.len() == 1);
-        assert_eq!(rt; numbers(script.lines[0].call), wanted);
-        assert_eq!(rt; names(script.lines[0].call), named);
+        assert_eq!(rt; script.lines[0].call, wanted);
     }
     Ok(())
 }
@@ -227,10 +257,10 @@ const BAD: [(&str, &str); 33] = [
 fn faults_are_told(rt: HostRuntime) -> Result<(), Fail> {
     let heap = rt.alloc();
     for (text, message) in BAD {
-        match parse(heap, text) {
-            Ok(_) => return Err(Fail::new("a wrong script was read")),
-            Err(e) => assert_eq!(rt; e.to_string(heap)?.as_str(), message),
-        }
+        let Err(e) = parse(heap, text) else {
+            return Err(Fail::new("a wrong script was read"));
+        };
+        assert_eq!(rt; e.to_string(heap)?.as_str(), message);
     }
     Ok(())
 }
@@ -269,7 +299,7 @@ fn lines_are_printed(rt: HostRuntime) -> Result<(), Fail> {
         &rt,
         Answered {
             line: 7,
-            answer: Ok(Answer::Number(1)),
+            answer: Ok(Answer::Wrote(1)),
         },
         "7: ok 1",
     )?;
@@ -277,7 +307,10 @@ fn lines_are_printed(rt: HostRuntime) -> Result<(), Fail> {
         &rt,
         Answered {
             line: 12,
-            answer: Ok(Answer::Segmented { count: 1, id: 6 }),
+            answer: Ok(Answer::Segmented {
+                count: 1,
+                segment: 6,
+            }),
         },
         "12: ok 1 6",
     )?;

@@ -1,13 +1,12 @@
-use Rattle.std.proofs.Common.{not, ap, ◌∙◌}
-use Rattle.script.proofs.Reading.{digit_past, no_numeral, all_digits}
+use Rattle.std.proofs.Common.{◌∙◌, rules}
+use Rattle.std.specs.Char.{is_ascii_digit}
+use Rattle.std.proofs.lemmas.Iterator.Adapters.{YieldsList-from_bytes}
+use Rattle.std.proofs.lemmas.Iterator.Search.{all_from_yields_List}
+use borrow.Author.Tests.{tests}
+use Rattle.script.proofs.Reading.{some_digits}
 use Rattle.script.proofs.word.is_numeral.Goals as goal
 
-pub loop-byte-preserved : goal.loop-byte-preserved
-loop-byte-preserved c = digit_past c.args.word.now c.loop-byte.byte-index c.loop-byte-test.true c.if-not-is_ascii_digit.ensures.value ∙ c.loop-byte.invariant
-
-pub returns-then-not-is_ascii_digit : goal.returns-then-not-is_ascii_digit
-returns-then-not-is_ascii_digit c =
-    no_numeral c.args.word.now c.loop-byte.byte-index c.loop-byte-test.true c.loop-byte.invariant c.if-not-is_ascii_digit.ensures.value
-
-pub returns : goal.returns
-returns c = ap not c.is_empty.ensures ∙ all_digits c.args.word.now c.loop-byte.byte-index c.loop-byte-test.false c.loop-byte.invariant
+pub returns-then-not-is_empty : goal.returns-then-not-is_empty
+returns-then-not-is_empty c =
+    all_from_yields_List is_ascii_digit _ _ c.all.result c.all.ensures.ran (YieldsList-from_bytes c.args.word.now c.bytes.ensures.rest) (λ x b q k. search (rules, tests))
+    ∙ some_digits c.args.word.now c.if-not-is_empty.ensures
