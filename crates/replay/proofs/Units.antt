@@ -10,9 +10,8 @@ use Rattle.journal.specs.declared.Window.{Window}
 use Rattle.model.specs.Decisions.{State, stage, units, decided, put_back, put_spot}
 use Rattle.model.specs.Runs.{World, Asking, ask, open_trial, take_back, keep, answered, done_call, at_mark, kept_marks, trail_of, above, refusal, unwound}
 use Rattle.model.proofs.Staged.{stage_laws}
-use Rattle.replay.specs.declared.call.Answer.{Answer}
 use Rattle.replay.specs.declared.call.Call.{Call}
-use Rattle.replay.specs.Calls.{asking, call_step}
+use Rattle.replay.specs.Calls.{Answered, asking, call_step}
 
 windows_units : {n : ℕ} (rs : List (Window n)) (s : State) → units (unwound put_back s rs) ≡ units s
 windows_units [] s = refl
@@ -46,7 +45,7 @@ answered_units : (w : World stage) (c : Asking stage) (o : Option Refusal) → u
 answered_units w c none = done_units w c
 answered_units w c (some e) = refl
 
-pub step_units : (memory : ℕ) (room : List Entry → ℕ) (c : Call) (w : World stage) {a : Answer} {v : World stage} → ◌≡◌ {A = Answer × World stage} (a, v) (call_step memory room c w)
+pub step_units : (memory : ℕ) (room : List Entry → ℕ) (c : Call) (w : World stage) {a : Answered} {v : World stage} → ◌≡◌ {A = Answered × World stage} (a, v) (call_step memory room c w)
     → units v.core.state ≡ units w.core.state
 unfolding call_step
-step_units memory room c w h = ap (λ (p : Answer × World stage). units p.1.core.state) h ∙ answered_units w (asking c) (refusal stage memory room w (asking c))
+step_units memory room c w h = ap (λ (p : Answered × World stage). units p.1.core.state) h ∙ answered_units w (asking c) (refusal stage memory room w (asking c))

@@ -35,7 +35,7 @@ fn make_calls<S: Sink>(
     map: &mut [Cell],
     log: &mut Log<'_>,
     calls: &[Call],
-    answers: &mut [Answer],
+    answers: &mut [Result<Answer, Refusal>],
 )
     requires { length calls.now ≤ length answers.old }
     ensures world { world stage.new map.new (lanes log.new) (S.Sink.list sink.new) ≡ (ran (length map.old) (S.Sink.rooms sink.old) calls.now (world stage.old map.old (lanes log.old) (S.Sink.list sink.old))).world }
@@ -44,8 +44,8 @@ fn make_calls<S: Sink>(
     ensures rooms { S.Sink.rooms sink.new ≡ S.Sink.rooms sink.old }
     ensures memory { SameMemory log.new log.old }
 {
-    for i in 0..calls.len() {
-        answers[i] = make_call(stage, sink, map, log, calls[i]);
+    for (i, call) in calls.iter().enumerate() {
+        answers[i] = make_call(stage, sink, map, log, *call);
     }
 }
 
@@ -61,7 +61,7 @@ pub fn write_calls<S: Sink>(
     map: &mut [Cell],
     log: &mut Log<'_>,
     calls: &[Call],
-    answers: &mut [Answer],
+    answers: &mut [Result<Answer, Refusal>],
 ) -> Result<Stage, ReplayError>
     ensures asked { stopped_by result ≡ write_asked columns rows last (length map.old) (length calls.now) (length answers.old) }
     ensures world { IfOk result (λ s. world s map.new (lanes log.new) (S.Sink.list sink.new) ≡ (ran (length map.old) (S.Sink.rooms sink.old) calls.now (started (start columns rows last) (lanes log.old) (S.Sink.list sink.old))).world) }
