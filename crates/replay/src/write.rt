@@ -44,6 +44,7 @@ fn make_calls<S: Sink>(
     ensures rooms { S.Sink.rooms sink.new ≡ S.Sink.rooms sink.old }
     ensures memory { SameMemory log.new log.old }
 {
+    // Not `answers.iter_mut().zip(calls)`: tried, and the proof does not close, as it learns no value that is written so.
     for (i, call) in calls.iter().enumerate() {
         answers[i] = make_call(stage, sink, map, log, *call);
     }
