@@ -24,8 +24,8 @@ unfolding segment_step
 returns-in-Segment-clause-step g c =
     let skipped : c.is_none.result ≡ is_none c.in-Segment.segment = grind (arith, common_steps) in
     let given : Bool → ℕ → Type 0 = λ b i. ◌≡◌ {A = Result (ℕ × ℕ) Refusal × World stage}
-      (c.write_segmentation.result, world c.write_segmentation.new.self c.write_segmentation.new.map (lanes c.write_segmentation.new.log) (g.S.Sink.list c.write_segmentation.new.sink))
-      (segment_step (length c.args.map.now) (g.S.Sink.rooms c.args.sink.now) c.in-Segment.x c.in-Segment.y c.in-Segment.bsize b i (world c.args.stage.now c.args.map.now (lanes c.args.log.now) (g.S.Sink.list c.args.sink.now))) in
+    (c.write_segmentation.result, world c.write_segmentation.new.self c.write_segmentation.new.map (lanes c.write_segmentation.new.log) (g.S.Sink.list c.write_segmentation.new.sink))
+    (segment_step (length c.args.map.now) (g.S.Sink.rooms c.args.sink.now) c.in-Segment.x c.in-Segment.y c.in-Segment.bsize b i (world c.args.stage.now c.args.map.now (lanes c.args.log.now) (g.S.Sink.list c.args.sink.now))) in
     call_made numbered _ _ _ c.in-Segment.is c.map-in-Segment.ensures.cases (λ x y h. search rules) (subst₂ given skipped c.unwrap_or.ensures c.write_segmentation.ensures.step) refl
 
 pub returns-in-Alphas-clause-step : goal.returns-in-Alphas-clause-step
