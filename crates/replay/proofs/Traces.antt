@@ -1,5 +1,5 @@
 -- A list of calls is a run of the model, so that the laws over runs hold of it.
-use Rattle.std.proofs.Common.{◌≡◌, ℕ, suc, ◌*◌, ◌<◌, List, [], ◌∷◌, ◌++◌, map, length, take, sym, refl, ap, ◌∙◌, subst, subst₂}
+use Rattle.std.proofs.Common.{◌≡◌, ℕ, suc, ◌*◌, ◌<◌, List, [], ◌∷◌, ◌++◌, map, length, take, sym, refl, ap, ◌∙◌, ap₂, subst, subst₂}
 use mathlib.Core.Option.{Option, none, some}
 use Rattle.std.proofs.Math.Seq.{take-append_seam}
 use Rattle.std.proofs.lemmas.List.{length-map}
@@ -8,7 +8,7 @@ use Rattle.av1.specs.declared.tile.Cell.{Cell}
 use Rattle.cdf.specs.declared.entry.Entry.{Entry}
 use Rattle.model.specs.declared.Question.{Question}
 use Rattle.model.specs.Decisions.{State, Sound, Decision, stage, units}
-use Rattle.model.specs.Runs.{World, Core, Lent, Standing, Book, noted, empty_book, fresh, as_call, Accepted, answered, refusal, step, run, symbol}
+use Rattle.model.specs.Runs.{World, Core, Lent, Standing, Book, Asking, ask, open_trial, take_back, keep, noted, empty_book, fresh, as_call, Accepted, answered, refusal, step, run, symbol}
 use Rattle.model.specs.Worked.{start}
 use Rattle.model.proofs.Staged.{stage_no_trace, stage_tells_apart}
 use Rattle.replay.specs.declared.call.Call.{Call}
@@ -57,24 +57,18 @@ standing_is memory room from lent cs told =
     sym (ap (λ (b : Book Question Decision). b.standing) (ran_book memory room cs (fresh stage from lent) (empty_book stage))) ∙ ap (standing cs) told
 
 -- each answer has the refusal of the questions
-refused_seen : (w : World stage) (c : Call) (o : Option Refusal) → refused_by (answer_of (answered stage w (asking c) o).answer) ≡ o
-refused_seen w c (some e) = refl
-refused_seen w (call.Partition x y z p) none = refl
-refused_seen w (call.Skip x y z flag) none = refl
-refused_seen w (call.Segment x y z id) none = refl
-refused_seen w (call.Alphas u v) none = refl
-refused_seen w (call.Vector row col p) none = refl
-refused_seen w (call.ContextUpdate x y z sub) none = refl
-refused_seen w call.RowStart none = refl
-refused_seen w call.Open none = refl
-refused_seen w (call.TakeBack depth) none = refl
-refused_seen w (call.Keep depth) none = refl
+refused_seen : (w : World stage) (a : Asking stage) (o : Option Refusal) → refused_by (answer_of (answered stage w a o).answer) ≡ o
+refused_seen w a (some e) = refl
+refused_seen w (ask q d) none = refl
+refused_seen w open_trial none = refl
+refused_seen w (take_back k) none = refl
+refused_seen w (keep k) none = refl
 
 ran_refused : (memory : ℕ) (room : List Entry → ℕ) (cs : List Call) (w : World stage) → RefusedWhereAsked memory room w cs (ran memory room cs w).answers
 unfolding call_step
 ran_refused memory room [] w = tt
 ran_refused memory room (c ∷ cs) w =
-    (refused_seen w c (refusal stage memory room w (asking c)), ran_refused memory room cs (step stage memory room w (asking c)).world)
+    (refused_seen w (asking c) (refusal stage memory room w (asking c)), ran_refused memory room cs (step stage memory room w (asking c)).world)
 
 -- where a memory begins with the answers, its front is the answers
 pub front_answers : (memory : ℕ) (room : List Entry → ℕ) (cs : List Call) (w : World stage) (as' rest : List Answered)
@@ -86,13 +80,11 @@ pub is_refused_where_asked : (memory : ℕ) (room : List Entry → ℕ) (cs : Li
     → (ran memory room cs w).answers ≡ answers → RefusedWhereAsked memory room w cs answers
 is_refused_where_asked memory room cs w told = subst (RefusedWhereAsked memory room w cs) told (ran_refused memory room cs w)
 
--- a stage that starts over an empty list starts alike over any list
-pub starts_over : (from : State) (s : Stage) (cells : List Cell) (lent : Lent stage) (es : List Entry) → world s cells lent [] ≡ fresh stage from lent
-    → world s cells lent es ≡ started from lent es
-starts_over from s cells lent es h =
-    ap (λ (w : World stage).
-    let again : World stage = record { core = record { state = w.core.state; entries = es }; small = w.small; large = w.large; spots = w.spots; marks = w.marks } in again)
-    h
+-- calls on a stage that starts over an empty list go as over any list
+pub from_start : (room : List Entry → ℕ) (from : State) (s : Stage) (cells : List Cell) (lent : Lent stage) (es : List Entry) (cs : List Call) {n : ℕ} → length cells ≡ n → world s cells lent [] ≡ fresh stage from lent
+    → ran (length cells) room cs (world s cells lent es) ≡ ran n room cs (started from lent es)
+from_start room from s cells lent es cs long h =
+    ap₂ (λ k (w : World stage). ran k room cs (record { core = record { state = w.core.state; entries = es }; small = w.small; large = w.large; spots = w.spots; marks = w.marks })) long h
 
 -- a stage at its start has columns × rows units
 pub start_units : (columns rows last : ℕ) (s : Stage) (cells : List Cell) (lent : Lent stage) → world s cells lent [] ≡ fresh stage (start columns rows last) lent
