@@ -1,4 +1,4 @@
-ghost use Rattle.std.specs.Prelude.{◌≡◌, ◌+◌, ◌<◌, ◌≤◌, true, is_some, IfSome, if◌then◌else◌, None, nat_eq};
+ghost use Rattle.std.specs.Prelude.{◌≡◌, ◌+◌, ◌<◌, ◌≤◌, true, [], ◌∷◌, is_some, IfSome, All};
 ghost use Rattle.av1.specs.Alphas.{sign_of, sign_number, alphas_allowed, joint_sign, coded_alpha};
 ghost use Rattle.av1.specs.Vectors.{magnitude, nonzero};
 
@@ -11,7 +11,7 @@ pub enum CFLSign {
 }
 
 impl CFLSign {
-    pub fn from_alpha(a: i16) -> CFLSign
+    pub fn from_alpha(a: i32) -> CFLSign
         ensures { sign_number result ≡ sign_of a }
     {
         if a < 0 {
@@ -39,13 +39,13 @@ impl CFLSign {
 /// Two chroma alphas in -16..=16, not both zero.
 #[derive(Clone, Copy)]
 pub struct CFLParams {
-    u: i16,
-    v: i16,
+    u: i32,
+    v: i32,
     ghost allowed: { alphas_allowed (u, v) ≡ true },
 }
 
 // The context and the symbol of an alpha beside the other.
-fn coded(alpha: i16, other: i16) -> Option<(usize, usize)>
+fn coded(alpha: i32, other: i32) -> Option<(usize, usize)>
     ensures value { result ≡ coded_alpha alpha other }
     ensures within { IfSome result (λ s. (s.0 < 6) × (s.1 < magnitude alpha)) }
 {
@@ -59,7 +59,7 @@ fn coded(alpha: i16, other: i16) -> Option<(usize, usize)>
 }
 
 impl CFLParams {
-    pub fn from_alpha(u: i16, v: i16) -> Option<CFLParams>
+    pub fn from_alpha(u: i32, v: i32) -> Option<CFLParams>
         ensures allowed { is_some result ≡ alphas_allowed (u, v) }
         ensures made { IfSome result (λ p. (p.u ≡ u) × (p.v ≡ v)) }
     {
@@ -85,17 +85,11 @@ impl CFLParams {
         usize::from(self.u != 0) + usize::from(self.v != 0)
     }
 
-    /// The context and the symbol of alpha u, for 0, or v, for 1; a zero has none.
-    pub fn scale(self, uv: usize) -> Option<(usize, usize)>
-        ensures value { result ≡ (if nat_eq uv 0 then coded_alpha self.u self.v else (if nat_eq uv 1 then coded_alpha self.v self.u else None)) }
-        ensures within { IfSome result (λ s. (s.0 < 6) × (s.1 < 16)) }
+    /// The context and the symbol of alpha u and of alpha v; a zero has none.
+    pub fn scales(self) -> [Option<(usize, usize)>; 2]
+        ensures value { result ≡ coded_alpha self.u self.v ∷ coded_alpha self.v self.u ∷ [] }
+        ensures within { All (λ o. IfSome o (λ s. (s.0 < 6) × (s.1 < 16))) result }
     {
-        if uv == 0 {
-            coded(self.u, self.v)
-        } else if uv == 1 {
-            coded(self.v, self.u)
-        } else {
-            None
-        }
+        [coded(self.u, self.v), coded(self.v, self.u)]
     }
 }

@@ -2,7 +2,7 @@ ghost use Rattle.std.specs.Prelude.{◌≡◌, ◌<◌};
 ghost use Rattle.av1.specs.Partitions.{number};
 
 /// How a block is divided, in the order of the standard's numbers.
-#[derive(Clone, Copy)]
+#[derive(Clone, Copy, PartialEq, Debug)]
 pub enum PartitionType {
     PARTITION_NONE,
     PARTITION_HORZ,

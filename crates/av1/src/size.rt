@@ -2,7 +2,7 @@ ghost use Rattle.std.specs.Prelude.{◌≡◌, ◌<◌, ◌≤◌, map};
 ghost use Rattle.av1.specs.Sizes.{width_log2, height_log2, width, height, width_mi, height_mi, square, fits_in, no_side_above, splits, above_byte, left_byte, context_bytes, all_sizes};
 
 /// The sizes of a block, in the order of the standard's numbers.
-#[derive(Clone, Copy)]
+#[derive(Clone, Copy, PartialEq, Debug)]
 pub enum BlockSize {
     BLOCK_4X4,
     BLOCK_4X8,

@@ -11,6 +11,13 @@ pub struct Cell {
     pub segment: u8,
 }
 
+/// The position of a block in its tile, in units.
+#[derive(Clone, Copy, PartialEq, Debug)]
+pub struct TileBlockOffset {
+    pub x: usize,
+    pub y: usize,
+}
+
 /// The cells of a block that lie in its tile: `height` rows of `width` cells, the first row from cell `from` on.
 #[derive(Clone, Copy, PartialEq, Debug)]
 pub struct Block {

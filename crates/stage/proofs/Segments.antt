@@ -1,5 +1,5 @@
 -- A segment decision of the stage is the model's.
-use Rattle.std.proofs.Common.{◌≡◌, ℕ, suc, ◌+◌, ◌*◌, ◌<◌, ◌≤◌, min, Bool, true, false, cond, not, ◌||◌, ltb, leb, List, [], map, length, get_or, take, Some, None, Ok, Err, sym, refl, ap, ◌∙◌, ap₂, arith, le→leb, lt→ltb, leb→le}
+use Rattle.std.proofs.Common.{◌≡◌, ℕ, suc, ◌+◌, ◌*◌, ◌<◌, ◌≤◌, min, Bool, true, false, cond, not, ◌||◌, ltb, leb, List, [], map, length, get_or, take, Some, None, Option, is_some, is_none, Ok, Err, Result, sym, refl, ap, ◌∙◌, ap₂, arith, le→leb, lt→ltb, leb→le}
 use mathlib.Core.Option.{none, some}
 use mir.Val.{bool_byte}
 use Rattle.av1.specs.declared.refusal.Refusal.{Refusal}
@@ -73,6 +73,15 @@ segment_coded true number last near id s w h e = absurd (true→T false (sym h))
 segment_coded false number last near id s w h e =
     ap (λ v. symbol_step (whole (table (30 + 8 * number) 8)) v w) e
     ∙ sym (no_more (λ t. symbol_steps t [] (symbol_step (whole (table (30 + 8 * number) 8)) (interleaved id near (last + 1)) w) ≡ symbol_step (whole (table (30 + 8 * number) 8)) (interleaved id near (last + 1)) w) (λ d. refl) refl last near (interleaved id near (last + 1)))
+
+-- a segment that is given is one entry and one window of 16 words
+pub carries : (o : Option ℕ) → bool_byte (is_some o) ≡ bool_byte (not (is_none o))
+carries None = refl
+carries (Some n) = refl
+
+-- the same count, written otherwise
+pub recounted : (n m d : ℕ) (w : World stage) → n ≡ m → ◌≡◌ {A = Result (ℕ × ℕ) Refusal × World stage} (Ok (n, d), w) (Ok (m, d), w)
+recounted n m d w e = ap (λ k. (Ok (k, d), w)) e
 
 -- an unskipped segment has one symbol, one entry and one window of 16 words
 path_length : (skip : Bool) (last near id : ℕ) → length (segment_path skip last near id) ≡ bool_byte (not skip)

@@ -4,7 +4,7 @@ ghost use Rattle.av1.specs.Tiles.{sides_asked, map_asked, placed, block_asked, s
 
 use crate::refusal::Refusal;
 use crate::size::BlockSize;
-use crate::tile::{Block, Tile};
+use crate::tile::{Block, Tile, TileBlockOffset};
 
 impl Tile {
     /// A tile of `cols` × `rows` units.
@@ -49,19 +49,19 @@ impl Tile {
     }
 
     /// The cells of a block at a position, which has to lie in the tile, at multiples of the block's sides.
-    pub fn place(&self, x: usize, y: usize, bsize: BlockSize) -> Result<Block, Refusal>
-        ensures answer { result ≡ placed self.now.cols self.now.rows x y bsize }
+    pub fn place(&self, bo: TileBlockOffset, bsize: BlockSize) -> Result<Block, Refusal>
+        ensures answer { result ≡ placed self.now.cols self.now.rows bo.x bo.y bsize }
         ensures inside { IfOk result (λ b. Inside self.now.cols self.now.rows b) }
     {
         let width = bsize.width_mi();
         let height = bsize.height_mi();
-        if x >= self.cols || y >= self.rows || x % width != 0 || y % height != 0 {
+        if bo.x >= self.cols || bo.y >= self.rows || bo.x % width != 0 || bo.y % height != 0 {
             return Err(Refusal::Position);
         }
         Ok(Block {
-            from: y * self.cols + x,
-            width: width.min(self.cols - x),
-            height: height.min(self.rows - y),
+            from: bo.y * self.cols + bo.x,
+            width: width.min(self.cols - bo.x),
+            height: height.min(self.rows - bo.y),
         })
     }
 
@@ -71,11 +71,10 @@ impl Tile {
         &self,
         memory: usize,
         longest: usize,
-        x: usize,
-        y: usize,
+        bo: TileBlockOffset,
         bsize: BlockSize,
     ) -> Result<Block, Refusal>
-        ensures answer { result ≡ block_asked self.now.cols self.now.rows memory longest x y bsize }
+        ensures answer { result ≡ block_asked self.now.cols self.now.rows memory longest bo.x bo.y bsize }
         ensures inside { IfOk result (λ b. Inside self.now.cols self.now.rows b) }
         ensures mapped { OnOk result (self.now.cols * self.now.rows ≤ memory) }
     {
@@ -85,24 +84,23 @@ impl Tile {
         if !bsize.has_no_side_above(longest) {
             return Err(Refusal::BlockSize);
         }
-        self.place(x, y, bsize)
+        self.place(bo, bsize)
     }
 
     /// Whether a partition may split the block: a square of `largest` pixels at most, at a position that fits.
     pub fn ask_square(
         &self,
         largest: usize,
-        x: usize,
-        y: usize,
+        bo: TileBlockOffset,
         bsize: BlockSize,
     ) -> Result<(), Refusal>
-        ensures answer { result ≡ square_asked self.now.cols self.now.rows largest x y bsize }
-        ensures placed { OnOk result (Placed self.now.cols self.now.rows largest x y bsize) }
+        ensures answer { result ≡ square_asked self.now.cols self.now.rows largest bo.x bo.y bsize }
+        ensures placed { OnOk result (Placed self.now.cols self.now.rows largest bo.x bo.y bsize) }
     {
         if !bsize.splits(largest) {
             return Err(Refusal::BlockSize);
         }
-        match self.place(x, y, bsize) {
+        match self.place(bo, bsize) {
             Ok(_) => Ok(()),
             Err(refusal) => Err(refusal),
         }

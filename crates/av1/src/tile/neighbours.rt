@@ -2,7 +2,7 @@ ghost use Rattle.std.specs.Prelude.{◌≡◌, ◌≤◌, min};
 ghost use Rattle.av1.specs.Segments.{prev, same, natural, segment_context, segment_prediction, near_segments};
 ghost use Rattle.av1.specs.Tiles.{cell_of, above_of, left_of, above_left_of, flag_of, skip_context};
 
-use crate::tile::{Cell, Tile};
+use crate::tile::{Cell, Tile, TileBlockOffset};
 
 // 1 for a cell that is there and skipped.
 fn skip_flag(cell: Option<Cell>) -> usize
@@ -68,64 +68,54 @@ fn segment_prediction(above_left: Option<Cell>, above: Option<Cell>, left: Optio
 // A neighbour outside the tile is absent.
 impl Tile {
     /// The cell of a unit.
-    pub fn cell_of(&self, cells: &[Cell], x: usize, y: usize) -> Option<Cell>
-        ensures { result ≡ cell_of self.now.cols self.now.rows cells.now x y }
+    pub fn cell_of(&self, cells: &[Cell], bo: TileBlockOffset) -> Option<Cell>
+        ensures { result ≡ cell_of self.now.cols self.now.rows cells.now bo.x bo.y }
     {
-        if x >= self.cols || y >= self.rows {
+        if bo.x >= self.cols || bo.y >= self.rows {
             return None;
         }
-        let i = y * self.cols + x;
-        if i < cells.len() {
-            Some(cells[i])
-        } else {
-            None
-        }
+        cells.get(bo.y * self.cols + bo.x).copied()
     }
 
-    pub fn above_of(&self, cells: &[Cell], x: usize, y: usize) -> Option<Cell>
-        ensures { result ≡ above_of self.now.cols self.now.rows cells.now x y }
+    pub fn above_of(&self, cells: &[Cell], bo: TileBlockOffset) -> Option<Cell>
+        ensures { result ≡ above_of self.now.cols self.now.rows cells.now bo.x bo.y }
     {
-        if y == 0 {
-            return None;
-        }
-        self.cell_of(cells, x, y - 1)
+        let y = bo.y.checked_sub(1)?;
+        self.cell_of(cells, TileBlockOffset { y, ..bo })
     }
 
-    pub fn left_of(&self, cells: &[Cell], x: usize, y: usize) -> Option<Cell>
-        ensures { result ≡ left_of self.now.cols self.now.rows cells.now x y }
+    pub fn left_of(&self, cells: &[Cell], bo: TileBlockOffset) -> Option<Cell>
+        ensures { result ≡ left_of self.now.cols self.now.rows cells.now bo.x bo.y }
     {
-        if x == 0 {
-            return None;
-        }
-        self.cell_of(cells, x - 1, y)
+        let x = bo.x.checked_sub(1)?;
+        self.cell_of(cells, TileBlockOffset { x, ..bo })
     }
 
-    pub fn above_left_of(&self, cells: &[Cell], x: usize, y: usize) -> Option<Cell>
-        ensures { result ≡ above_left_of self.now.cols self.now.rows cells.now x y }
+    pub fn above_left_of(&self, cells: &[Cell], bo: TileBlockOffset) -> Option<Cell>
+        ensures { result ≡ above_left_of self.now.cols self.now.rows cells.now bo.x bo.y }
     {
-        if x == 0 || y == 0 {
-            return None;
-        }
-        self.cell_of(cells, x - 1, y - 1)
+        let x = bo.x.checked_sub(1)?;
+        let y = bo.y.checked_sub(1)?;
+        self.cell_of(cells, TileBlockOffset { x, y })
     }
 
     /// How many of the cells above and left are skipped.
-    pub fn skip_context(&self, cells: &[Cell], x: usize, y: usize) -> usize
-        ensures value { result ≡ skip_context self.now.cols self.now.rows cells.now x y }
+    pub fn skip_context(&self, cells: &[Cell], bo: TileBlockOffset) -> usize
+        ensures value { result ≡ skip_context self.now.cols self.now.rows cells.now bo.x bo.y }
         ensures most { result ≤ 2 }
     {
-        skip_flag(self.above_of(cells, x, y)) + skip_flag(self.left_of(cells, x, y))
+        skip_flag(self.above_of(cells, bo)) + skip_flag(self.left_of(cells, bo))
     }
 
     /// The prediction of a segment, at most `last`, and the number of its table.
-    pub fn get_segment_pred(&self, cells: &[Cell], x: usize, y: usize, last: u8) -> (u8, usize)
-        ensures prediction { result.0 ≡ min (natural (near_segments self.now.cols self.now.rows cells.now segment_prediction x y)) last }
-        ensures number { result.1 ≡ near_segments self.now.cols self.now.rows cells.now segment_context x y }
+    pub fn get_segment_pred(&self, cells: &[Cell], bo: TileBlockOffset, last: u8) -> (u8, usize)
+        ensures prediction { result.0 ≡ min (natural (near_segments self.now.cols self.now.rows cells.now segment_prediction bo.x bo.y)) last }
+        ensures number { result.1 ≡ near_segments self.now.cols self.now.rows cells.now segment_context bo.x bo.y }
         ensures most { result.1 ≤ 2 }
     {
-        let above_left = self.above_left_of(cells, x, y);
-        let above = self.above_of(cells, x, y);
-        let left = self.left_of(cells, x, y);
+        let above_left = self.above_left_of(cells, bo);
+        let above = self.above_of(cells, bo);
+        let left = self.left_of(cells, bo);
         let prediction = segment_prediction(above_left, above, left);
         (
             prediction.min(last),

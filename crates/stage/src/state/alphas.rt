@@ -40,8 +40,8 @@ impl Stage {
         &mut self,
         sink: &mut S,
         log: &mut Log<'_>,
-        u: i16,
-        v: i16,
+        u: i32,
+        v: i32,
     ) -> Result<usize, Refusal>
         ensures step { (memory : List Cell) → (result, world self.new memory (lanes log.new) (S.Sink.list sink.new)) ≡ decision_step (length memory) (S.Sink.rooms sink.old) question.Alphas (u, v) (world self.old memory (lanes log.old) (S.Sink.list sink.old)) }
         ensures rooms { S.Sink.rooms sink.new ≡ S.Sink.rooms sink.old }
@@ -54,7 +54,7 @@ impl Stage {
         let entries = 1 + cfl.count_scales();
         self.journal
             .ask_record(log, sink.room(), entries, 0, entries, 0)?;
-        let (first, second) = (cfl.scale(0), cfl.scale(1));
+        let [first, second] = cfl.scales();
         self.symbol(sink, log, 22, 8, cfl.joint_sign());
         self.code_scale(sink, log, first);
         self.code_scale(sink, log, second);

@@ -1,4 +1,4 @@
-ghost use Rattle.std.specs.Prelude.{◌≡◌, ℕ, ◌+◌, ◌<◌, ◌≤◌, Bool, true, false, cond, ◌&&◌, List, length, is_ok};
+ghost use Rattle.std.specs.Prelude.{◌≡◌, ℕ, ◌+◌, ◌<◌, ◌≤◌, Bool, true, false, cond, ◌&&◌, List, length, is_ok, ◌==◌};
 ghost use mir.Val.{bool_byte};
 ghost use Rattle.av1.specs.declared.tile.Cell.{Cell};
 ghost use Rattle.av1.specs.Partitions.{number};
@@ -17,21 +17,21 @@ ghost use Rattle.stage.specs.View.{lanes, world};
 
 use crate::state::symbols::put_entry;
 use crate::state::{Contexts, Stage};
-use av1::{BlockSize, PartitionType, Refusal};
+use av1::{BlockSize, PartitionType, Refusal, TileBlockOffset};
 use cdf::Edge;
 use journal::Log;
 use record::Sink;
 
 impl Contexts {
     // The context of a square of side 8 × 2^`level`: whether the blocks left and above are smaller.
-    fn partition_plane_context(&self, x: usize, y: usize, level: usize) -> usize
-        requires inside { x < 1024 }
+    fn partition_plane_context(&self, bo: TileBlockOffset, level: usize) -> usize
+        requires inside { bo.x < 1024 }
         requires level { level ≤ 3 }
-        ensures value { result ≡ context_at self.now.above self.now.left x y level }
+        ensures value { result ≡ context_at self.now.above self.now.left bo.x bo.y level }
         ensures most { result ≤ 3 }
     {
-        let above = (self.above[x / 2] >> level) % 2;
-        let left = (self.left[y % 16 / 2] >> level) % 2;
+        let above = (self.above[bo.x / 2] >> level) % 2;
+        let left = (self.left[bo.y % 16 / 2] >> level) % 2;
         2 * left as usize + above as usize
     }
 }
@@ -51,18 +51,23 @@ fn partition_table(level: usize, ctx: usize) -> (usize, usize)
 
 // Whether a partition can be coded by a table of `n` symbols, where the block's lower half has rows and its right
 // half columns in the tile as told.
-fn is_allowed(rows: bool, cols: bool, n: usize, p: usize) -> bool
-    ensures { (first : ℕ) → result ≡ partition_allowed rows cols (table first n) p }
+fn is_allowed(rows: bool, cols: bool, n: usize, p: PartitionType) -> bool
+    ensures { (first : ℕ) → result ≡ partition_allowed rows cols (table first n) (number p) }
 {
-    if rows && cols {
-        p < n
-    } else if cols {
-        p == 3 || p == 1
-    } else if rows {
-        p == 3 || p == 2
-    } else {
-        p == 3
+    match (rows, cols) {
+        (true, true) => p.number() < n,
+        (false, true) => p == PartitionType::PARTITION_SPLIT || p == PartitionType::PARTITION_HORZ,
+        (true, false) => p == PartitionType::PARTITION_SPLIT || p == PartitionType::PARTITION_VERT,
+        (false, false) => p == PartitionType::PARTITION_SPLIT,
     }
+}
+
+// The symbol of a partition at an edge: whether it is SPLIT.
+fn symbol_at_edge(p: PartitionType) -> usize
+    ensures value { result ≡ bool_byte (number p == 3) }
+    ensures most { result < 2 }
+{
+    usize::from(p == PartitionType::PARTITION_SPLIT)
 }
 
 // How many entries a partition has, and undo records in the lanes of small and large windows.
@@ -103,23 +108,22 @@ impl Stage {
         cols: bool,
         first: usize,
         n: usize,
-        p: usize,
+        p: PartitionType,
     )
         requires table { in_layout (table first n) ≡ true }
-        requires allowed { partition_allowed rows cols (table first n) p ≡ true }
+        requires allowed { partition_allowed rows cols (table first n) (number p) ≡ true }
         requires room { entries_at rows cols ≤ S.Sink.rooms sink.old (S.Sink.list sink.old) }
         requires small { 0 < self.old.journal.trials → self.old.journal.small + small_at rows cols n ≤ length log.old.small.now }
         requires large { 0 < self.old.journal.trials → self.old.journal.large + large_at rows cols n ≤ length log.old.large.now }
-        ensures step { (memory : List Cell) → world self.new memory (lanes log.new) (S.Sink.list sink.new) ≡ symbol_steps (partition_tree rows cols (table first n)) (partition_path rows cols p) (world self.old memory (lanes log.old) (S.Sink.list sink.old)) }
+        ensures step { (memory : List Cell) → world self.new memory (lanes log.new) (S.Sink.list sink.new) ≡ symbol_steps (partition_tree rows cols (table first n)) (partition_path rows cols (number p)) (world self.old memory (lanes log.old) (S.Sink.list sink.old)) }
         ensures rooms { S.Sink.rooms sink.new ≡ S.Sink.rooms sink.old }
         ensures memory { SameMemory log.new log.old }
     {
-        if rows && cols {
-            self.symbol(sink, log, first, n, p);
-        } else if cols {
-            self.edge_symbol(sink, first, n, Edge::Bottom, (p == 3) as usize);
-        } else if rows {
-            self.edge_symbol(sink, first, n, Edge::Right, (p == 3) as usize);
+        match (rows, cols) {
+            (true, true) => self.symbol(sink, log, first, n, p.number()),
+            (false, true) => self.edge_symbol(sink, first, n, Edge::Bottom, symbol_at_edge(p)),
+            (true, false) => self.edge_symbol(sink, first, n, Edge::Right, symbol_at_edge(p)),
+            (false, false) => {}
         }
     }
 
@@ -129,24 +133,22 @@ impl Stage {
         &mut self,
         sink: &mut S,
         log: &mut Log<'_>,
-        x: usize,
-        y: usize,
+        bo: TileBlockOffset,
         bsize: BlockSize,
         p: PartitionType,
     ) -> Result<usize, Refusal>
-        ensures step { (memory : List Cell) → (result, world self.new memory (lanes log.new) (S.Sink.list sink.new)) ≡ decision_step (length memory) (S.Sink.rooms sink.old) (question.Partition x y bsize) (number p) (world self.old memory (lanes log.old) (S.Sink.list sink.old)) }
+        ensures step { (memory : List Cell) → (result, world self.new memory (lanes log.new) (S.Sink.list sink.new)) ≡ decision_step (length memory) (S.Sink.rooms sink.old) (question.Partition bo.x bo.y bsize) (number p) (world self.old memory (lanes log.old) (S.Sink.list sink.old)) }
         ensures rooms { S.Sink.rooms sink.new ≡ S.Sink.rooms sink.old }
         ensures still { is_ok result ≡ false → (sink.new ≡ sink.old) × (self.new ≡ self.old) }
         ensures memory { SameMemory log.new log.old }
     {
         let tile = self.tile;
-        tile.ask_square(64, x, y, bsize)?;
-        let rows = tile.has_rows(y, bsize);
-        let cols = tile.has_cols(x, bsize);
+        tile.ask_square(64, bo, bsize)?;
+        let rows = tile.has_rows(bo.y, bsize);
+        let cols = tile.has_cols(bo.x, bsize);
         let level = bsize.width_log2() - 3;
-        let ctx = self.contexts.partition_plane_context(x, y, level);
+        let ctx = self.contexts.partition_plane_context(bo, level);
         let (first, n) = partition_table(level, ctx);
-        let p = p.number();
         if !is_allowed(rows, cols, n, p) {
             return Err(Refusal::Partition);
         }

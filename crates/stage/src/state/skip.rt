@@ -7,7 +7,7 @@ ghost use Rattle.stage.specs.View.{world, lanes, units_of};
 
 use crate::state::Stage;
 use crate::state::cells::Change;
-use av1::{BlockSize, Cell, Refusal};
+use av1::{BlockSize, Cell, Refusal, TileBlockOffset};
 use journal::Log;
 use record::Sink;
 
@@ -19,24 +19,23 @@ impl Stage {
         sink: &mut S,
         map: &mut [Cell],
         log: &mut Log<'_>,
-        x: usize,
-        y: usize,
+        bo: TileBlockOffset,
         bsize: BlockSize,
         skip: bool,
     ) -> Result<usize, Refusal>
-        ensures step { (result, world self.new map.new (lanes log.new) (S.Sink.list sink.new)) ≡ decision_step (length map.old) (S.Sink.rooms sink.old) (question.Skip x y bsize) skip (world self.old map.old (lanes log.old) (S.Sink.list sink.old)) }
-        ensures cells { is_ok result ≡ true → FlagSet self.old.tile x y bsize skip map.old map.new }
+        ensures step { (result, world self.new map.new (lanes log.new) (S.Sink.list sink.new)) ≡ decision_step (length map.old) (S.Sink.rooms sink.old) (question.Skip bo.x bo.y bsize) skip (world self.old map.old (lanes log.old) (S.Sink.list sink.old)) }
+        ensures cells { is_ok result ≡ true → FlagSet self.old.tile bo.x bo.y bsize skip map.old map.new }
         ensures behind { drop (units_of self.old) map.new ≡ drop (units_of self.old) map.old }
         ensures rooms { S.Sink.rooms sink.new ≡ S.Sink.rooms sink.old }
         ensures still { is_ok result ≡ false → (sink.new ≡ sink.old) × (self.new ≡ self.old) × (map.new ≡ map.old) }
         ensures memory { SameMemory log.new log.old }
     {
         let tile = self.tile;
-        let block = tile.ask_block(map.len(), 64, x, y, bsize)?;
+        let block = tile.ask_block(map.len(), 64, bo, bsize)?;
         self.journal
             .ask_record(log, sink.room(), 1, 1, 0, block.height * block.width)?;
         let cells = &mut map[0..tile.units()];
-        let ctx = tile.skip_context(cells, x, y);
+        let ctx = tile.skip_context(cells, bo);
         self.symbol(sink, log, 2 * ctx, 2, skip as usize);
         self.journal
             .set_block(cells, log.spots, tile.cols(), block, Change::Skip(skip));

@@ -7,7 +7,7 @@ ghost use Rattle.stage.specs.View.{lanes, world};
 
 use crate::state::Stage;
 use crate::state::bytes::Side;
-use av1::{BlockSize, Refusal};
+use av1::{BlockSize, Refusal, TileBlockOffset};
 use journal::Log;
 
 impl Stage {
@@ -16,12 +16,11 @@ impl Stage {
     pub fn update_partition_context(
         &mut self,
         log: &mut Log<'_>,
-        x: usize,
-        y: usize,
+        bo: TileBlockOffset,
         subsize: BlockSize,
         bsize: BlockSize,
     ) -> Result<(), Refusal>
-        ensures step { (memory : List Cell) (rooms : List Entry → ℕ) (entries : List Entry) → (result, world self.new memory (lanes log.new) entries) ≡ update_step (length memory) rooms x y bsize subsize (world self.old memory (lanes log.old) entries) }
+        ensures step { (memory : List Cell) (rooms : List Entry → ℕ) (entries : List Entry) → (result, world self.new memory (lanes log.new) entries) ≡ update_step (length memory) rooms bo.x bo.y bsize subsize (world self.old memory (lanes log.old) entries) }
         ensures still { is_ok result ≡ false → self.new ≡ self.old }
         ensures memory { SameMemory log.new log.old }
     {
@@ -29,7 +28,7 @@ impl Stage {
             return Err(Refusal::BlockSize);
         }
         let tile = self.tile;
-        tile.ask_square(64, x, y, bsize)?;
+        tile.ask_square(64, bo, bsize)?;
         let width = bsize.width_mi() / 2;
         let height = bsize.height_mi() / 2;
         self.journal.ask_record(log, 0, 0, 0, 0, width + height)?;
@@ -38,7 +37,7 @@ impl Stage {
             &mut self.contexts.above,
             log.spots,
             Side::Above,
-            x / 2,
+            bo.x / 2,
             width,
             above,
         );
@@ -46,7 +45,7 @@ impl Stage {
             &mut self.contexts.left,
             log.spots,
             Side::Left,
-            y % 16 / 2,
+            bo.y % 16 / 2,
             height,
             left,
         );

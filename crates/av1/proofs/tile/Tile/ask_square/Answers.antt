@@ -7,4 +7,4 @@ pub returns-in-Err : goal.returns-in-Err
 returns-in-Err c =
     let t = c.args.self.now in
     let square : splits c.args.largest c.args.bsize ≡ true = search rules in
-    record { answer = not_placed t.cols t.rows c.args.largest c.args.x c.args.y c.args.bsize c.in-Err.refusal square c.in-Err.ensures.answer; placed = tt }
+    record { answer = not_placed t.cols t.rows c.args.largest c.args.bo.x c.args.bo.y c.args.bsize c.in-Err.refusal square c.in-Err.ensures.answer; placed = tt }

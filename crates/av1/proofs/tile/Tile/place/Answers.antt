@@ -6,8 +6,8 @@ pub returns : goal.returns
 returns c =
     let columns : ℕ = c.args.self.now.cols in
     let rows : ℕ = c.args.self.now.rows in
-    let x : ℕ = c.args.x in
-    let y : ℕ = c.args.y in
+    let x : ℕ = c.args.bo.x in
+    let y : ℕ = c.args.bo.y in
     let w : c.min.result ≡ min c.width_mi-width.result (columns - x) = search rules in
     let h : c.min-2.result ≡ min c.height_mi-height.result (rows - y) = search rules in
     let x_in : x < columns = search rules in

@@ -13,7 +13,7 @@ returns-then-not-fits_in c =
     let s = c.args.self.now in
     let no : fits_in c.args.subsize c.args.bsize ≡ false = search rules in
     record {
-      step = λ memory rooms entries. update_unfit (length memory) rooms (state_of s memory) s.journal (lanes c.args.log.now) entries c.args.x c.args.y c.args.bsize c.args.subsize no;
+      step = λ memory rooms entries. update_unfit (length memory) rooms (state_of s memory) s.journal (lanes c.args.log.now) entries c.args.bo.x c.args.bo.y c.args.bsize c.args.subsize no;
       still = λ h. refl;
       memory = search rules;
     }
@@ -25,7 +25,7 @@ returns-in_err-ask_square c =
     let p = err_from_is_err_and c.from_residual.result c.from_residual.ensures.1 in
     rw (p.1, p.2) (record {
       step = λ memory rooms entries.
-          update_unplaced (length memory) rooms (state_of s memory) s.journal (lanes c.args.log.now) entries c.args.x c.args.y c.args.bsize c.args.subsize _ fit c.in_err-ask_square.ensures.answer;
+          update_unplaced (length memory) rooms (state_of s memory) s.journal (lanes c.args.log.now) entries c.args.bo.x c.args.bo.y c.args.bsize c.args.subsize _ fit c.in_err-ask_square.ensures.answer;
       still = λ h. refl;
       memory = search rules;
     })
@@ -39,7 +39,7 @@ returns-in_err-ask_record c =
     let p = err_from_is_err_and c.from_residual-in_err-ask_record.result c.from_residual-in_err-ask_record.ensures.1 in
     rw (p.1, p.2) (record {
       step = λ memory rooms entries.
-          update_unlogged (length memory) rooms (state_of s memory) s.journal (lanes c.args.log.now) entries c.args.x c.args.y z c.args.subsize tt fit c.in_ok-ask_square.ensures.answer _ spread _
+          update_unlogged (length memory) rooms (state_of s memory) s.journal (lanes c.args.log.now) entries c.args.bo.x c.args.bo.y z c.args.subsize tt fit c.in_ok-ask_square.ensures.answer _ spread _
           c.in_err-ask_record.ensures.answer;
       still = λ h. refl;
       memory = search rules;
@@ -50,7 +50,7 @@ set_bytes-requires c =
     let s = c.args.self.now in
     let z = c.args.bsize in
     let placed = c.in_ok-ask_square.ensures.placed in
-    let inside = spans_inside s.tile.cols s.tile.rows c.args.x c.args.y z (search rules) placed.square placed.inside in
+    let inside = spans_inside s.tile.cols s.tile.rows c.args.bo.x c.args.bo.y z (search rules) placed.square placed.inside in
     let fit = c.in_ok-ask_record.ensures.lanes in
     record {
       inside = omega (arith, s.over, inside.0, c.width_mi-width.ensures.value);
@@ -63,7 +63,7 @@ set_bytes-requires-2 c =
     let s = c.args.self.now in
     let z = c.args.bsize in
     let placed = c.in_ok-ask_square.ensures.placed in
-    let inside = spans_inside s.tile.cols s.tile.rows c.args.x c.args.y z (search rules) placed.square placed.inside in
+    let inside = spans_inside s.tile.cols s.tile.rows c.args.bo.x c.args.bo.y z (search rules) placed.square placed.inside in
     let fit = c.in_ok-ask_record.ensures.lanes in
     record {
       inside = omega (arith, s.beside, inside.1, c.height_mi-height.ensures.value);
@@ -82,9 +82,9 @@ invariant_of-self c =
       over = c.set_bytes.auto.bytes ∙ s.over;
       beside = c.set_bytes-2.auto.bytes ∙ s.beside;
       quiet =
-          still_unused side.Left c.context_bytes-above.result.1 (from ((c.args.y % 16) / 2) (c.height_mi-height.result / 2)) c.set_bytes.new.self c.set_bytes-2.new.self
+          still_unused side.Left c.context_bytes-above.result.1 (from ((c.args.bo.y % 16) / 2) (c.height_mi-height.result / 2)) c.set_bytes.new.self c.set_bytes-2.new.self
           s.contexts.left c.set_bytes-2.new.bytes c.set_bytes.new.spots c.set_bytes-2.new.spots two.kept two.bytes
-          (still_unused side.Above c.context_bytes-above.result.0 (from (c.args.x / 2) (c.width_mi-width.result / 2)) s.journal c.set_bytes.new.self
+          (still_unused side.Above c.context_bytes-above.result.0 (from (c.args.bo.x / 2) (c.width_mi-width.result / 2)) s.journal c.set_bytes.new.self
           s.contexts.above c.set_bytes.new.bytes c.args.log.now.spots.now c.set_bytes.new.spots one.kept one.bytes s.quiet);
     }
 
@@ -98,10 +98,10 @@ returns c =
     let wide : c.width_mi-width.result / 2 ≡ width z / 8 = omega (arith, c.width_mi-width.ensures.value) in
     let high : c.height_mi-height.result / 2 ≡ height z / 8 = omega (arith, c.height_mi-height.ensures.value) in
     let placed = c.in_ok-ask_square.ensures.placed in
-    let inside = spans_inside s.tile.cols s.tile.rows c.args.x c.args.y z (search rules) placed.square placed.inside in
+    let inside = spans_inside s.tile.cols s.tile.rows c.args.bo.x c.args.bo.y z (search rules) placed.square placed.inside in
     record {
       step = λ memory rooms entries.
-          updated_world (length memory) rooms (state_of s memory) s.journal (lanes c.args.log.now) entries c.args.x c.args.y z c.args.subsize tt fit c.in_ok-ask_square.ensures.answer
+          updated_world (length memory) rooms (state_of s memory) s.journal (lanes c.args.log.now) entries c.args.bo.x c.args.bo.y z c.args.subsize tt fit c.in_ok-ask_square.ensures.answer
           _ (ap₂ (λ (m n : ℕ). m + n) wide high) tt c.set_bytes.new.self c.set_bytes-2.new.self _ _ _ _ _ _ _ _ c.in_ok-ask_record.ensures.answer inside
           (ap (λ (b : ℕ × ℕ). b.0) c.context_bytes-above.ensures) (ap (λ (b : ℕ × ℕ). b.1) c.context_bytes-above.ensures) wide high one.bytes two.bytes refl refl refl refl one.kept two.kept;
       still = λ h. absurd (both_ways true h refl);

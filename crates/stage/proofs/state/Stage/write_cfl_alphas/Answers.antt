@@ -1,4 +1,4 @@
-use Rattle.std.proofs.Common.{◌≡◌, ◌+◌, true, false, length, refl, ap, ◌∙◌, ap₂, arith, rules}
+use Rattle.std.proofs.Common.{◌≡◌, ◌+◌, true, false, length, get_or, None, refl, ap, ◌∙◌, ap₂, arith, rules}
 use Rattle.std.proofs.lemmas.Result.{err_from_is_err_and}
 use Rattle.av1.specs.Alphas.{alphas_allowed, joint_sign, coded_alpha}
 use Rattle.av1.specs.Vectors.{nonzero}
@@ -56,11 +56,11 @@ code_scale-requires-2 g c =
     let fit = c.in_ok-ask_record.ensures.lanes in
     let signs = c.symbol.ensures in
     let first = c.code_scale.ensures in
-    let one : scale_count c.scale-first.result ≡ nonzero cfl.u = ap scale_count c.scale-first.ensures.value ∙ counted cfl.u cfl.v in
-    let two : scale_count c.scale-second.result ≡ nonzero cfl.v = ap scale_count c.scale-second.ensures.value ∙ counted cfl.v cfl.u in
+    let one : scale_count (get_or c.scales.result 0 None) ≡ nonzero cfl.u = ap (λ xs. scale_count (get_or xs 0 None)) c.scales.ensures.value ∙ counted cfl.u cfl.v in
+    let two : scale_count (get_or c.scales.result 1 None) ≡ nonzero cfl.v = ap (λ xs. scale_count (get_or xs 1 None)) c.scales.ensures.value ∙ counted cfl.v cfl.u in
     let entries = c.count_scales-entries.ensures.value in
     record {
-      within = c.scale-second.ensures.within;
+      within = search rules;
       room = omega (arith, c.in_ok-ask_record.ensures.room, c.room.ensures, signs.left, first.left, one, two, entries);
       large = λ some.
           omega (arith, fit.large (omega (arith, first.trials, signs.trials)), (signs.many (omega arith)).0, first.many, signs.memory.large_long, first.memory.large_long, one, two, entries);
@@ -76,14 +76,14 @@ returns g c =
     record {
       step = λ memory.
           accepted (length memory) (k.rooms c.args.sink.now) (state_of s memory) s.journal (lanes c.args.log.now) (k.list c.args.sink.now) c.args.u c.args.v
-          c.room.result (1 + c.count_scales-entries.result) c.joint_sign.result c.scale-first.result c.scale-second.result
+          c.room.result (1 + c.count_scales-entries.result) c.joint_sign.result (get_or c.scales.result 0 None) (get_or c.scales.result 1 None)
           (world c.symbol.new.self memory (lanes c.symbol.new.log) (k.list c.symbol.new.sink))
           (world c.code_scale.new.self memory (lanes c.code_scale.new.log) (k.list c.code_scale.new.sink))
           (world c.code_scale-2.new.self memory (lanes c.code_scale-2.new.log) (k.list c.code_scale-2.new.sink))
           c.in_ok-ask_record.field-0 allowed c.room.ensures
           (ap (λ n. 1 + n) (c.count_scales-entries.ensures.value ∙ ap₂ (λ a b. nonzero a + nonzero b) u v)) c.in_ok-ask_record.ensures.answer
-          (c.joint_sign.ensures.value ∙ ap₂ (λ a b. joint_sign (a, b)) u v) (c.scale-first.ensures.value ∙ ap₂ coded_alpha u v)
-          (c.scale-second.ensures.value ∙ ap₂ coded_alpha v u) (c.symbol.ensures.step memory) (c.code_scale.ensures.step memory) (c.code_scale-2.ensures.step memory);
+          (c.joint_sign.ensures.value ∙ ap₂ (λ a b. joint_sign (a, b)) u v) (ap (λ xs. get_or xs 0 None) c.scales.ensures.value ∙ ap₂ coded_alpha u v)
+          (ap (λ xs. get_or xs 1 None) c.scales.ensures.value ∙ ap₂ coded_alpha v u) (c.symbol.ensures.step memory) (c.code_scale.ensures.step memory) (c.code_scale-2.ensures.step memory);
       rooms = c.code_scale-2.ensures.rooms ∙ c.code_scale.ensures.rooms ∙ c.symbol.ensures.rooms;
       still = search rules;
       memory = search rules;

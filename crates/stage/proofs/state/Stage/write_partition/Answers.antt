@@ -18,7 +18,7 @@ returns-in_err-ask_square g c =
     rw (p.1, p.2) (record {
       step = λ memory.
           refused_square (length memory) (k.rooms c.args.sink.now) (state_of s memory) s.journal (lanes c.args.log.now) (k.list c.args.sink.now)
-          c.args.x c.args.y c.args.bsize (number c.args.p) _ c.in_err-ask_square.ensures.answer;
+          c.args.bo.x c.args.bo.y c.args.bsize (number c.args.p) _ c.in_err-ask_square.ensures.answer;
       rooms = refl;
       still = λ h. (refl, refl);
       memory = search rules;
@@ -28,19 +28,19 @@ pub returns-then-not-is_allowed : goal.returns-then-not-is_allowed
 returns-then-not-is_allowed g c =
     let k = g.S.Sink in
     let s = c.args.self.now in
-    let x : ℕ = c.args.x in
-    let y : ℕ = c.args.y in
+    let x : ℕ = c.args.bo.x in
+    let y : ℕ = c.args.bo.y in
     let z = c.args.bsize in
     let r : Bool = c.has_rows-rows.result in
     let b : Bool = c.has_cols-cols.result in
     let first : ℕ = c.partition_table-first.result.0 in
     let n : ℕ = c.partition_table-first.result.1 in
-    let p : ℕ = c.number-p.result in
+    let p : ℕ = number c.args.p in
     let lv : ℕ = c.width_log2-level.result - 3 in
     let ctx : ℕ = c.partition_plane_context-ctx.result in
     let lev : lv ≡ level z = ap (λ (e : ℕ). e - 3) c.width_log2-level.ensures in
     let tab = λ (memory : List Cell). same_table (state_of s memory) x y z lv ctx first n lev c.partition_plane_context-ctx.ensures.value c.partition_table-first.ensures.value in
-    let fit = λ (memory : List Cell). c.is_allowed.ensures first ∙ same_fit (state_of s memory) x y z r b (table first n) p (number c.args.p) c.has_rows-rows.ensures c.has_cols-cols.ensures (tab memory) c.number-p.ensures.value in
+    let fit = λ (memory : List Cell). c.is_allowed.ensures first ∙ same_fit (state_of s memory) x y z r b (table first n) p (number c.args.p) c.has_rows-rows.ensures c.has_cols-cols.ensures (tab memory) refl in
     let no : c.is_allowed.result ≡ false = search rules in
     record {
       step = λ memory.
@@ -55,19 +55,19 @@ pub returns-in_err-ask_record : goal.returns-in_err-ask_record
 returns-in_err-ask_record g c =
     let k = g.S.Sink in
     let s = c.args.self.now in
-    let x : ℕ = c.args.x in
-    let y : ℕ = c.args.y in
+    let x : ℕ = c.args.bo.x in
+    let y : ℕ = c.args.bo.y in
     let z = c.args.bsize in
     let r : Bool = c.has_rows-rows.result in
     let b : Bool = c.has_cols-cols.result in
     let first : ℕ = c.partition_table-first.result.0 in
     let n : ℕ = c.partition_table-first.result.1 in
-    let p : ℕ = c.number-p.result in
+    let p : ℕ = number c.args.p in
     let lv : ℕ = c.width_log2-level.result - 3 in
     let ctx : ℕ = c.partition_plane_context-ctx.result in
     let lev : lv ≡ level z = ap (λ (e : ℕ). e - 3) c.width_log2-level.ensures in
     let tab = λ (memory : List Cell). same_table (state_of s memory) x y z lv ctx first n lev c.partition_plane_context-ctx.ensures.value c.partition_table-first.ensures.value in
-    let fit = λ (memory : List Cell). c.is_allowed.ensures first ∙ same_fit (state_of s memory) x y z r b (table first n) p (number c.args.p) c.has_rows-rows.ensures c.has_cols-cols.ensures (tab memory) c.number-p.ensures.value in
+    let fit = λ (memory : List Cell). c.is_allowed.ensures first ∙ same_fit (state_of s memory) x y z r b (table first n) p (number c.args.p) c.has_rows-rows.ensures c.has_cols-cols.ensures (tab memory) refl in
     let needed = c.records-entries.ensures in
     let asked = λ (memory : List Cell).
     same_taken (state_of s memory) s.journal (lanes c.args.log.now) x y z r b (table first n) c.records-entries.result.0 c.records-entries.result.1 c.records-entries.result.2 c.room.result (k.rooms c.args.sink.now (k.list c.args.sink.now))
@@ -87,19 +87,19 @@ pub returns : goal.returns
 returns g c =
     let k = g.S.Sink in
     let s = c.args.self.now in
-    let x : ℕ = c.args.x in
-    let y : ℕ = c.args.y in
+    let x : ℕ = c.args.bo.x in
+    let y : ℕ = c.args.bo.y in
     let z = c.args.bsize in
     let r : Bool = c.has_rows-rows.result in
     let b : Bool = c.has_cols-cols.result in
     let first : ℕ = c.partition_table-first.result.0 in
     let n : ℕ = c.partition_table-first.result.1 in
-    let p : ℕ = c.number-p.result in
+    let p : ℕ = number c.args.p in
     let lv : ℕ = c.width_log2-level.result - 3 in
     let ctx : ℕ = c.partition_plane_context-ctx.result in
     let lev : lv ≡ level z = ap (λ (e : ℕ). e - 3) c.width_log2-level.ensures in
     let tab = λ (memory : List Cell). same_table (state_of s memory) x y z lv ctx first n lev c.partition_plane_context-ctx.ensures.value c.partition_table-first.ensures.value in
-    let fit = λ (memory : List Cell). c.is_allowed.ensures first ∙ same_fit (state_of s memory) x y z r b (table first n) p (number c.args.p) c.has_rows-rows.ensures c.has_cols-cols.ensures (tab memory) c.number-p.ensures.value in
+    let fit = λ (memory : List Cell). c.is_allowed.ensures first ∙ same_fit (state_of s memory) x y z r b (table first n) p (number c.args.p) c.has_rows-rows.ensures c.has_cols-cols.ensures (tab memory) refl in
     let needed = c.records-entries.ensures in
     let asked = λ (memory : List Cell).
     same_taken (state_of s memory) s.journal (lanes c.args.log.now) x y z r b (table first n) c.records-entries.result.0 c.records-entries.result.1 c.records-entries.result.2 c.room.result (k.rooms c.args.sink.now (k.list c.args.sink.now))
@@ -111,7 +111,7 @@ returns g c =
           tt c.in_ok-ask_square.ensures.answer _ c.records-entries.result.0 tt (sym (fit memory) ∙ yes) (c.in_ok-ask_record.ensures.answer ∙ asked memory)
           (needed.0 ∙ ap₂ entries_at c.has_rows-rows.ensures c.has_cols-cols.ensures)
           (c.code_partition.ensures.step memory
-          ∙ same_coded (state_of s memory) x y z r b (table first n) p (number c.args.p) (world s memory (lanes c.args.log.now) (k.list c.args.sink.now)) c.has_rows-rows.ensures c.has_cols-cols.ensures (tab memory) c.number-p.ensures.value);
+          ∙ same_coded (state_of s memory) x y z r b (table first n) p (number c.args.p) (world s memory (lanes c.args.log.now) (k.list c.args.sink.now)) c.has_rows-rows.ensures c.has_cols-cols.ensures (tab memory) refl);
       rooms = c.code_partition.ensures.rooms;
       still = λ h. absurd (both_ways true h refl);
       memory = c.code_partition.ensures.memory;

@@ -1,4 +1,6 @@
-use Rattle.std.proofs.Common.{◌≡◌, ℕ, ◌-◌, ◌*◌, ◌<◌, ◌≤◌, min, false, List, length, take, drop, sym, refl, ap, ◌∙◌, arith, rules}
+use Rattle.std.specs.Option.{unwrap_or}
+use mir.Val.{bool_byte}
+use Rattle.std.proofs.Common.{not, is_none, ◌≡◌, ℕ, ◌-◌, ◌*◌, ◌<◌, ◌≤◌, min, false, List, length, take, drop, sym, refl, ap, ◌∙◌, arith, rules}
 use borrow.Rule.Slice.PartMut.{mid_of, put_mid}
 use Rattle.std.proofs.lemmas.Result.{err_from_is_err_and}
 use Rattle.av1.specs.declared.tile.Cell.{Cell}
@@ -6,10 +8,11 @@ use Rattle.av1.specs.declared.tile.Tile.{Tile}
 use Rattle.av1.specs.Segments.{natural, near_segments, segment_context, segment_prediction}
 use Rattle.model.specs.Decisions.{block_cells, prediction, segment_number, segment_decided}
 use Rattle.stage.specs.declared.state.cells.Change.TheVariants as change
+use Rattle.stage.specs.Questions.{area, need, record_asked}
 use Rattle.stage.specs.View.{lanes, state_of, world}
 use Rattle.stage.proofs.Cells.{part_long, part_taken, part_dropped, still_quiet}
 use Rattle.stage.proofs.Calls.{asked_block}
-use Rattle.stage.proofs.Segments.{prediction_here, number_here, refused_block, refused_number, refused_record, accepted, map_segment}
+use Rattle.stage.proofs.Segments.{carries, recounted, prediction_here, number_here, refused_block, refused_number, refused_record, accepted, map_segment}
 use Rattle.stage.proofs.state.Stage.write_segmentation.Goals as goal
 
 pub returns-in_err-block : goal.returns-in_err-block
@@ -20,7 +23,7 @@ returns-in_err-block g c =
     rw (p.1, p.2) (record {
       step =
           refused_block (length c.args.map.now) (k.rooms c.args.sink.now) (state_of s c.args.map.now) s.journal (lanes c.args.log.now) (k.list c.args.sink.now)
-          c.args.x c.args.y c.args.bsize c.args.skip c.args.segment _ c.in_err-block.ensures.answer;
+          c.args.bo.x c.args.bo.y c.args.bsize (is_none c.args.segment) (unwrap_or c.args.segment 0) _ c.in_err-block.ensures.answer;
       cells = tt;
       behind = refl;
       rooms = refl;
@@ -28,34 +31,35 @@ returns-in_err-block g c =
       memory = search rules;
     })
 
-pub returns-then-segment-self : goal.returns-then-segment-self
-returns-then-segment-self g c =
+pub returns-in_err-ask_active : goal.returns-in_err-ask_active
+returns-in_err-ask_active g c =
     let k = g.S.Sink in
     let s = c.args.self.now in
-    let unskipped : c.args.skip ≡ false = search rules in
-    let above : s.last < c.args.segment = search rules in
-    record {
+    let p = err_from_is_err_and c.from_residual-in_err-ask_active.result c.from_residual-in_err-ask_active.ensures.1 in
+    let above = c.in_err-ask_active.ensures.inactive in
+    rw (p.1, p.2, above.0) (record {
       step =
           refused_number (length c.args.map.now) (k.rooms c.args.sink.now) (state_of s c.args.map.now) s.journal (lanes c.args.log.now) (k.list c.args.sink.now)
-          c.args.x c.args.y c.args.bsize c.args.skip c.args.segment c.in_ok-block.block c.in_ok-block.ensures.answer unskipped above;
+          c.args.bo.x c.args.bo.y c.args.bsize (is_none c.args.segment) (unwrap_or c.args.segment 0) c.in_ok-block.block c.in_ok-block.ensures.answer above.1 above.2;
       cells = tt;
       behind = refl;
       rooms = refl;
       still = λ h. (refl, refl, refl);
       memory = search rules;
-    }
+    })
 
 pub returns-in_err-ask_record : goal.returns-in_err-ask_record
 returns-in_err-ask_record g c =
     let k = g.S.Sink in
     let s = c.args.self.now in
-    let active : c.args.skip ≡ false → c.args.segment ≤ s.last = search rules in
+    let active = c.in_ok-ask_active.ensures.active in
+    let count : c.from-entries.result ≡ bool_byte (not (is_none c.args.segment)) = c.from-entries.ensures ∙ ap bool_byte c.is_some.ensures ∙ carries c.args.segment in
     let p = err_from_is_err_and c.from_residual-in_err-ask_record.result c.from_residual-in_err-ask_record.ensures.1 in
     rw (p.1, p.2) (record {
       step =
           refused_record (length c.args.map.now) (k.rooms c.args.sink.now) (state_of s c.args.map.now) s.journal (lanes c.args.log.now) (k.list c.args.sink.now)
-          c.args.x c.args.y c.args.bsize c.args.skip c.args.segment c.in_ok-block.block c.room.result _
-          c.in_ok-block.ensures.answer active c.room.ensures c.in_err-ask_record.ensures.answer;
+          c.args.bo.x c.args.bo.y c.args.bsize (is_none c.args.segment) (unwrap_or c.args.segment 0) c.in_ok-block.block c.room.result _
+          c.in_ok-block.ensures.answer active c.room.ensures (c.in_err-ask_record.ensures.answer ∙ ap (λ n. record_asked s.journal (lanes c.args.log.now) c.room.result n (need 0 n (area c.in_ok-block.block))) count);
       cells = tt;
       behind = refl;
       rooms = refl;
@@ -101,11 +105,12 @@ returns g c =
     let s' = c.code_segment-set.new.self in
     let coded = c.code_segment-set.ensures in
     let map : List Cell = c.args.map.now in
-    let x : ℕ = c.args.x in
-    let y : ℕ = c.args.y in
+    let x : ℕ = c.args.bo.x in
+    let y : ℕ = c.args.bo.y in
     let n : ℕ = c.units.result in
     let kept = c.set_block.ensures.kept in
-    let active : c.args.skip ≡ false → c.args.segment ≤ s.last = search rules in
+    let active = c.in_ok-ask_active.ensures.active in
+    let count : c.from-entries.result ≡ bool_byte (not (is_none c.args.segment)) = c.from-entries.ensures ∙ ap bool_byte c.is_some.ensures ∙ carries c.args.segment in
     let part : n - 0 ≡ n = omega arith in
     let units : n ≡ s.tile.cols * s.tile.rows = c.units.ensures.value in
     let units' : n ≡ s'.tile.cols * s'.tile.rows = units ∙ sym (ap (λ (t : Tile). t.cols * t.rows) coded.tile) in
@@ -122,21 +127,21 @@ returns g c =
     let after : List Cell = put_mid 0 (n - 0) map c.set_block.new.cells in
     let step =
     accepted (length map) (k.rooms c.args.sink.now) here s.journal (lanes c.args.log.now) (k.list c.args.sink.now)
-    x y c.args.bsize c.args.skip c.args.segment
+    x y c.args.bsize (is_none c.args.segment) (unwrap_or c.args.segment 0)
     (state_of s' map) s'.journal c.set_block.new.self (lanes c.code_segment-set.new.log) _ (k.list c.code_segment-set.new.sink)
     (mid_of 0 (n - 0) map) c.set_block.new.cells _ c.get_segment_pred-prediction.result.1 c.get_segment_pred-prediction.result.0 c.code_segment-set.result
     c.cols.result c.room.result c.in_ok-block.block c.in_ok-ask_record.field-0
     (ap (λ (t : Tile). t.cols) coded.tile) (ap (λ (t : Tile). t.rows) coded.tile) number near coded.segment
-    (coded.step map) c.in_ok-block.ensures.answer active c.room.ensures c.in_ok-ask_record.ensures.answer
+    (coded.step map) c.in_ok-block.ensures.answer active c.room.ensures (c.in_ok-ask_record.ensures.answer ∙ ap (λ n. record_asked s.journal (lanes c.args.log.now) c.room.result n (need 0 n (area c.in_ok-block.block))) count)
     (c.cols.ensures ∙ sym (ap (λ (t : Tile). t.cols) coded.tile)) own
     (ap (λ (i : ℕ). take i (put_mid 0 (n - 0) map c.set_block.new.cells)) (sym units') ∙ part_taken map c.set_block.new.cells n (n - 0) part fits long)
     c.set_block.ensures.cells refl refl kept.0 kept.1 kept.2 kept.3 in
     record {
-      step = step;
+      step = recounted c.from-entries.result (bool_byte (not (is_none c.args.segment))) c.code_segment-set.result _ count ∙ step;
       cells =
           map_segment (length map) (k.rooms c.args.sink.now) (world s map (lanes c.args.log.now) (k.list c.args.sink.now)) _ s.tile map after
-          x y c.args.bsize c.args.skip c.args.segment _ c.code_segment-set.result step
-          (coded.segment ∙ ap (λ (i : ℕ). segment_decided c.args.skip i c.args.segment) near) refl refl refl
+          x y c.args.bsize (is_none c.args.segment) (unwrap_or c.args.segment 0) _ c.code_segment-set.result step
+          (coded.segment ∙ ap (λ (i : ℕ). segment_decided (is_none c.args.segment) i (unwrap_or c.args.segment 0)) near) refl refl refl
           (ap (λ (t : Tile). take (t.cols * t.rows) after) coded.tile) c.in_ok-block.ensures.mapped
           (asked_block s.tile.cols s.tile.rows (length map) 64 x y c.args.bsize c.in_ok-block.block c.in_ok-block.ensures.answer).0;
       behind =

@@ -22,7 +22,7 @@ returns-in_err-block g c =
     rw (p.1, p.2) (record {
       step =
           refused_block (length c.args.map.now) (k.rooms c.args.sink.now) (state_of s c.args.map.now) s.journal (lanes c.args.log.now) (k.list c.args.sink.now)
-          c.args.x c.args.y c.args.bsize c.args.skip _ c.in_err-block.ensures.answer;
+          c.args.bo.x c.args.bo.y c.args.bsize c.args.skip _ c.in_err-block.ensures.answer;
       cells = λ h. absurd (both_ways false refl h);
       behind = refl;
       rooms = refl;
@@ -38,7 +38,7 @@ returns-in_err-ask_record g c =
     rw (p.1, p.2) (record {
       step =
           refused_record (length c.args.map.now) (k.rooms c.args.sink.now) (state_of s c.args.map.now) s.journal (lanes c.args.log.now) (k.list c.args.sink.now)
-          c.args.x c.args.y c.args.bsize c.args.skip c.in_ok-block.block c.room.result _
+          c.args.bo.x c.args.bo.y c.args.bsize c.args.skip c.in_ok-block.block c.room.result _
           c.in_ok-block.ensures.answer c.room.ensures c.in_err-ask_record.ensures.answer;
       cells = λ h. absurd (both_ways false refl h);
       behind = refl;
@@ -102,13 +102,13 @@ returns g c =
     let fits : n ≤ length map = omega (arith, c.in_ok-block.ensures.mapped, units) in
     let long = c.set_block.auto.cells in
     let own : mid_of 0 (n - 0) map ≡ take (s'.tile.cols * s'.tile.rows) map = ap (λ (i : ℕ). take i map) (part ∙ units') in
-    let context : c.skip_context-ctx.result ≡ skip_context s.tile.cols s.tile.rows (take (s.tile.cols * s.tile.rows) map) c.args.x c.args.y =
-    c.skip_context-ctx.ensures.value ∙ ap (λ (i : ℕ). skip_context s.tile.cols s.tile.rows (take i map) c.args.x c.args.y) (part ∙ units) in
+    let context : c.skip_context-ctx.result ≡ skip_context s.tile.cols s.tile.rows (take (s.tile.cols * s.tile.rows) map) c.args.bo.x c.args.bo.y =
+    c.skip_context-ctx.ensures.value ∙ ap (λ (i : ℕ). skip_context s.tile.cols s.tile.rows (take i map) c.args.bo.x c.args.bo.y) (part ∙ units) in
     let after : List Cell = put_mid 0 (n - 0) map c.set_block.new.cells in
     let from = state_of s map in
     let step =
     accepted (length map) (k.rooms c.args.sink.now) from s.journal (lanes c.args.log.now) (k.list c.args.sink.now)
-    c.args.x c.args.y c.args.bsize c.args.skip
+    c.args.bo.x c.args.bo.y c.args.bsize c.args.skip
     (state_of s' map) s'.journal c.set_block.new.self (lanes c.symbol.new.log) _ (k.list c.symbol.new.sink)
     (mid_of 0 (n - 0) map) c.set_block.new.cells _ c.skip_context-ctx.result c.cols.result c.room.result c.in_ok-block.block c.in_ok-ask_record.field-0
     (ap (λ (t : Tile). t.cols) c.symbol.ensures.tile) (ap (λ (t : Tile). t.rows) c.symbol.ensures.tile) context
@@ -120,9 +120,9 @@ returns g c =
       step = step;
       cells = λ ok.
           flag_set (length map) (k.rooms c.args.sink.now) (world s map (lanes c.args.log.now) (k.list c.args.sink.now)) _ s.tile map after
-          c.args.x c.args.y c.args.bsize c.args.skip step refl refl refl
+          c.args.bo.x c.args.bo.y c.args.bsize c.args.skip step refl refl refl
           (ap (λ (t : Tile). take (t.cols * t.rows) after) c.symbol.ensures.tile) c.in_ok-block.ensures.mapped
-          (asked_block s.tile.cols s.tile.rows (length map) 64 c.args.x c.args.y c.args.bsize c.in_ok-block.block c.in_ok-block.ensures.answer).0;
+          (asked_block s.tile.cols s.tile.rows (length map) 64 c.args.bo.x c.args.bo.y c.args.bsize c.in_ok-block.block c.in_ok-block.ensures.answer).0;
       behind =
           ap (λ (i : ℕ). drop i (put_mid 0 (n - 0) map c.set_block.new.cells)) (sym units) ∙ part_dropped map c.set_block.new.cells n (n - 0) part fits long ∙ ap (λ (i : ℕ). drop i map) units;
       rooms = c.symbol.ensures.rooms;
