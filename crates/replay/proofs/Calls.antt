@@ -7,9 +7,9 @@ use Rattle.cdf.specs.declared.entry.Entry.{Entry}
 use Rattle.model.specs.Calls.{answer_by}
 use Rattle.model.specs.Decisions.{stage}
 use Rattle.model.specs.Runs.{World, Asking, refusal, answered, step}
-use Rattle.replay.specs.declared.call.Answer.{Answer}
-use Rattle.replay.specs.declared.call.Answer.TheVariants as told
-use Rattle.replay.specs.declared.call.Call.{Call}
+use Rattle.av1.specs.declared.call.Answer.{Answer}
+use Rattle.av1.specs.declared.call.Answer.TheVariants as told
+use Rattle.av1.specs.declared.call.Call.{Call}
 use Rattle.replay.specs.Calls.{Answered, asking, answer_of, call_step}
 
 -- a result, seen as an answer

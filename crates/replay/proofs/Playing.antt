@@ -4,7 +4,7 @@ use Rattle.std.proofs.lemmas.List.{at_drop_more, at_drop_all, take_more_set, app
 use Rattle.cdf.specs.declared.entry.Entry.{Entry}
 use Rattle.model.specs.Decisions.{stage}
 use Rattle.model.specs.Runs.{World}
-use Rattle.replay.specs.declared.call.Call.{Call}
+use Rattle.av1.specs.declared.call.Call.{Call}
 use Rattle.replay.specs.Calls.{Answered, call_step}
 use Rattle.replay.specs.Runs.{ran}
 

@@ -11,8 +11,8 @@ use Rattle.model.specs.Decisions.{State, Sound, Decision, stage, units}
 use Rattle.model.specs.Runs.{World, Core, Lent, Standing, Book, Asking, ask, open_trial, take_back, keep, noted, empty_book, fresh, as_call, Accepted, answered, refusal, step, run, symbol}
 use Rattle.model.specs.Worked.{start}
 use Rattle.model.proofs.Staged.{stage_no_trace, stage_tells_apart}
-use Rattle.replay.specs.declared.call.Call.{Call}
-use Rattle.replay.specs.declared.call.Call.TheVariants as call
+use Rattle.av1.specs.declared.call.Call.{Call}
+use Rattle.av1.specs.declared.call.Call.TheVariants as call
 use Rattle.replay.specs.Calls.{Answered, asking, answer_of, call_step}
 use Rattle.replay.specs.Runs.{ran, told_of, book_of, standing, started, Outcome, NoTraceOf, ToldApart, SymbolsDiffer, RefusedWhereAsked}
 use Rattle.stage.specs.declared.state.Stage.{Stage}
@@ -21,12 +21,12 @@ use Rattle.stage.specs.View.{refused_by, units_of, world}
 -- what a call tells is seen in its answer
 told_again : (w : World stage) (c : Call) (o : Option Refusal) → told_of c (answer_of (answered stage w (asking c) o).answer) ≡ (answered stage w (asking c) o).answer
 told_again w c (some e) = refl
-told_again w (call.Partition x y z p) none = refl
-told_again w (call.Skip x y z flag) none = refl
-told_again w (call.Segment x y z id) none = refl
+told_again w (call.Partition bo z p) none = refl
+told_again w (call.Skip bo z flag) none = refl
+told_again w (call.Segment bo z id) none = refl
 told_again w (call.Alphas u v) none = refl
 told_again w (call.Vector row col p) none = refl
-told_again w (call.ContextUpdate x y z sub) none = refl
+told_again w (call.ContextUpdate bo z sub) none = refl
 told_again w call.RowStart none = refl
 told_again w call.Open none = refl
 told_again w (call.TakeBack depth) none = refl

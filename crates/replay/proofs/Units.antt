@@ -10,7 +10,7 @@ use Rattle.model.specs.Decisions.{State, stage, units, decided, put_back, put_sp
 use Rattle.model.specs.Runs.{World, Asking, ask, open_trial, take_back, keep, answered, done_call, at_mark, kept_marks, trail_of, above, refusal}
 use Rattle.model.proofs.Trails.{unwound_sound}
 use Rattle.model.proofs.Staged.{stage_laws}
-use Rattle.replay.specs.declared.call.Call.{Call}
+use Rattle.av1.specs.declared.call.Call.{Call}
 use Rattle.replay.specs.Calls.{Answered, asking, call_step}
 
 spot_units : (s : State) (r : Spot) → units (put_spot s r) ≡ units s

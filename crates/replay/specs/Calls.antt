@@ -8,18 +8,18 @@ use Rattle.model.specs.declared.Question.{Question}
 use Rattle.model.specs.declared.Question.TheVariants as of
 use Rattle.model.specs.Decisions.{Decision, stage}
 use Rattle.model.specs.Runs.{World, Asking, ask, open_trial, take_back, keep, Told, wrote, opened, ended, refused, step}
-use Rattle.replay.specs.declared.call.Answer.{Answer}
-use Rattle.replay.specs.declared.call.Answer.TheVariants as told
-use Rattle.replay.specs.declared.call.Call.{Call}
-use Rattle.replay.specs.declared.call.Call.TheVariants as call
+use Rattle.av1.specs.declared.call.Answer.{Answer}
+use Rattle.av1.specs.declared.call.Answer.TheVariants as told
+use Rattle.av1.specs.declared.call.Call.{Call}
+use Rattle.av1.specs.declared.call.Call.TheVariants as call
 
 abbrev pub asking : Call → Asking stage
-asking (call.Partition x y z p) = ask (of.Partition x y z) (number p)
-asking (call.Skip x y z flag) = ask (of.Skip x y z) flag
-asking (call.Segment x y z id) = ask (of.Segment x y z (is_none id)) (unwrap_or id 0)
+asking (call.Partition bo z p) = ask (of.Partition bo.x bo.y z) (number p)
+asking (call.Skip bo z flag) = ask (of.Skip bo.x bo.y z) flag
+asking (call.Segment bo z id) = ask (of.Segment bo.x bo.y z (is_none id)) (unwrap_or id 0)
 asking (call.Alphas u v) = ask of.Alphas (u, v)
 asking (call.Vector row col p) = ask (of.Vector p) (row, col)
-asking (call.ContextUpdate x y z sub) = ask (of.ContextUpdate x y z sub) tt
+asking (call.ContextUpdate bo z sub) = ask (of.ContextUpdate bo.x bo.y z sub) tt
 asking call.RowStart = ask of.RowStart tt
 asking call.Open = open_trial
 asking (call.TakeBack depth) = take_back depth
@@ -27,13 +27,10 @@ asking (call.Keep depth) = keep depth
 
 -- what an accepted call answers: a segment its number too, an update or a row start nothing
 abbrev pub answer_to : ℕ → (q : Question) → Decision q → Answer
-answer_to n (of.Partition x y z) d = told.Wrote n
-answer_to n (of.Skip x y z) d = told.Wrote n
 answer_to n (of.Segment x y z skip) d = told.Segmented n d
-answer_to n of.Alphas d = told.Wrote n
-answer_to n (of.Vector p) d = told.Wrote n
 answer_to n (of.ContextUpdate x y z sub) d = told.Done
 answer_to n of.RowStart d = told.Done
+answer_to n q d = told.Wrote n
 
 -- what a call answers, or why it is refused
 abbrev pub Answered : Type 0

@@ -11,9 +11,9 @@ use Rattle.model.specs.declared.Question.TheVariants as of
 use Rattle.model.specs.Decisions.{State, Decision, stage, units, start_asked}
 use Rattle.model.specs.Runs.{World, Core, Lent, Book, Standing, Told, wrote, opened, ended, refused, noted, empty_book, fresh, as_call, Accepted, unused, symbol}
 use Rattle.model.specs.Runs as model
-use Rattle.replay.specs.declared.call.Answer.TheVariants as told
-use Rattle.replay.specs.declared.call.Call.{Call}
-use Rattle.replay.specs.declared.call.Call.TheVariants as call
+use Rattle.av1.specs.declared.call.Answer.TheVariants as told
+use Rattle.av1.specs.declared.call.Call.{Call}
+use Rattle.av1.specs.declared.call.Call.TheVariants as call
 use Rattle.replay.specs.declared.write.ReplayError.{ReplayError}
 use Rattle.replay.specs.declared.write.ReplayError.TheVariants as error
 use Rattle.replay.specs.Calls.{Answered, asking, call_step}
@@ -55,17 +55,17 @@ stopped_by (Err e) = some e
 
 -- the question of a call and its decision; a segment's is the one that the call answers
 abbrev pub stood : Call → ℕ → Standing stage
-stood (call.Partition x y z p) answered = record { question = of.Partition x y z; decision = number p }
-stood (call.Skip x y z flag) answered = record { question = of.Skip x y z; decision = flag }
-stood (call.Segment x y z id) answered = record { question = of.Segment x y z (is_none id); decision = answered }
+stood (call.Partition bo z p) answered = record { question = of.Partition bo.x bo.y z; decision = number p }
+stood (call.Skip bo z flag) answered = record { question = of.Skip bo.x bo.y z; decision = flag }
+stood (call.Segment bo z id) answered = record { question = of.Segment bo.x bo.y z (is_none id); decision = answered }
 stood (call.Alphas u v) answered = record { question = of.Alphas; decision = (u, v) }
 stood (call.Vector row col p) answered = record { question = of.Vector p; decision = (row, col) }
-stood (call.ContextUpdate x y z sub) answered = record { question = of.ContextUpdate x y z sub; decision = tt }
+stood (call.ContextUpdate bo z sub) answered = record { question = of.ContextUpdate bo.x bo.y z sub; decision = tt }
 stood c answered = record { question = of.RowStart; decision = tt }
 
 -- what the book is told of a call: by the call and its answer alone
 abbrev pub told_done : Call → Told Question Decision
-told_done (call.ContextUpdate x y z sub) = wrote 0 (stood (call.ContextUpdate x y z sub) 0)
+told_done (call.ContextUpdate bo z sub) = wrote 0 (stood (call.ContextUpdate bo z sub) 0)
 told_done call.RowStart = wrote 0 (stood call.RowStart 0)
 told_done c = ended
 

@@ -5,8 +5,8 @@ ghost use Rattle.replay.specs.Runs.{ran, started, stopped_by, write_asked, core_
 ghost use Rattle.stage.specs.Lanes.{SameMemory};
 ghost use Rattle.stage.specs.View.{lanes, units_of, world};
 
-use crate::call::{Answer, Call, make_call};
-use av1::{Cell, Refusal};
+use crate::call::make_call;
+use av1::{Answer, Call, Cell, Refusal};
 use journal::Log;
 use record::Sink;
 use stage::Stage;

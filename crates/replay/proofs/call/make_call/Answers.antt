@@ -6,8 +6,8 @@ use Rattle.model.specs.Decisions.{stage}
 use Rattle.model.specs.Runs.{World}
 use Rattle.model.specs.Calls.{decision_step, segment_step, update_step, row_step, open_step, back_step, keep_step}
 use Rattle.stage.specs.View.{lanes, world}
-use Rattle.replay.specs.declared.call.Answer.TheVariants as told
-use Rattle.replay.specs.declared.call.Call.TheVariants as call
+use Rattle.av1.specs.declared.call.Answer.TheVariants as told
+use Rattle.av1.specs.declared.call.Call.TheVariants as call
 use Rattle.replay.proofs.Calls.{call_made, numbered, done}
 use Rattle.replay.proofs.call.make_call.Goals as goal
 
@@ -21,16 +21,11 @@ returns-in-Skip-clause-step g c = call_made told.Wrote _ _ _ c.in-Skip.is c.map-
 
 pub returns-in-Segment-clause-step : goal.returns-in-Segment-clause-step
 unfolding segment_step
-returns-in-Segment-clause-step g c =
-    let skipped : c.is_none.result ≡ is_none c.in-Segment.segment = grind (arith, common_steps) in
-    let given : Bool → ℕ → Type 0 = λ b i. ◌≡◌ {A = Result (ℕ × ℕ) Refusal × World stage}
-    (c.write_segmentation.result, world c.write_segmentation.new.self c.write_segmentation.new.map (lanes c.write_segmentation.new.log) (g.S.Sink.list c.write_segmentation.new.sink))
-    (segment_step (length c.args.map.now) (g.S.Sink.rooms c.args.sink.now) c.in-Segment.x c.in-Segment.y c.in-Segment.bsize b i (world c.args.stage.now c.args.map.now (lanes c.args.log.now) (g.S.Sink.list c.args.sink.now))) in
-    call_made numbered _ _ _ c.in-Segment.is c.map-in-Segment.ensures.cases (λ x y h. search rules) (subst₂ given skipped c.unwrap_or.ensures c.write_segmentation.ensures.step) refl
+returns-in-Segment-clause-step g c = call_made numbered _ _ _ c.in-Segment.is c.map-in-Segment.ensures.cases (λ x y h. search rules) c.write_segmentation.ensures.step refl
 
 pub returns-in-Alphas-clause-step : goal.returns-in-Alphas-clause-step
 unfolding decision_step
-returns-in-Alphas-clause-step g c = call_made told.Wrote _ _ _ (c.in-Alphas.is ∙ sym (ap₂ call.Alphas (to_z-of_z {w = w16} (search rules)) (to_z-of_z {w = w16} (search rules)))) c.map-in-Alphas.ensures.cases (λ x y h. h) (c.write_cfl_alphas.ensures.step c.args.map.now) refl
+returns-in-Alphas-clause-step g c = call_made told.Wrote _ _ _ (c.in-Alphas.is ∙ sym (ap₂ call.Alphas (to_z-of_z {w = w32} (search rules)) (to_z-of_z {w = w32} (search rules)))) c.map-in-Alphas.ensures.cases (λ x y h. h) (c.write_cfl_alphas.ensures.step c.args.map.now) refl
 
 pub returns-in-Vector-clause-step : goal.returns-in-Vector-clause-step
 unfolding decision_step
