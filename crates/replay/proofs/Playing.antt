@@ -1,6 +1,6 @@
 -- A list of calls, call by call: what is left of it gives what all of it gives.
-use Rattle.std.proofs.Common.{◌≡◌, ℕ, ◌+◌, ◌<◌, ◌≤◌, List, [], ◌∷◌, ◌++◌, length, get_or, take, drop, set, sym, ap, ◌∙◌, ap₂, arith}
-use Rattle.std.proofs.lemmas.List.{at_drop_more, at_drop_all, take_more_set, append_assoc, append-nil, drop-set-lt, drop-drop, take-append-drop}
+use Rattle.std.proofs.Common.{◌≡◌, ℕ, ◌+◌, ◌<◌, List, [], ◌∷◌, ◌++◌, length, get_or, take, drop, set, sym, ap, ◌∙◌, ap₂}
+use Rattle.std.proofs.lemmas.List.{at_drop_more, take_more_set, append_assoc}
 use Rattle.cdf.specs.declared.entry.Entry.{Entry}
 use Rattle.model.specs.Decisions.{stage}
 use Rattle.model.specs.Runs.{World}

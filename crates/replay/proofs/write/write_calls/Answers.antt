@@ -1,11 +1,10 @@
-use Rattle.std.proofs.Common.{◌≡◌, ◌*◌, ◌++◌, length, replicate, drop, take, sym, ap, ◌∙◌, arith, rules}
+use Rattle.std.proofs.Common.{◌++◌, length, drop, sym, ap, ◌∙◌, arith, rules}
 use Rattle.std.proofs.lemmas.Grind.{common_steps}
-use Rattle.av1.specs.Tiles.{no_cell}
 use Rattle.model.specs.Decisions.{Sound}
 use Rattle.model.specs.Worked.{start}
 use Rattle.model.proofs.Examples.{starts_sound}
-use Rattle.replay.specs.Runs.{Ran, ran, started}
-use Rattle.stage.specs.View.{lanes, units_of}
+use Rattle.replay.specs.Runs.{Ran, started}
+use Rattle.stage.specs.View.{lanes}
 use Rattle.replay.proofs.Traces.{front_answers, is_refused_where_asked, from_start, start_units, leaves_no_trace, has_outcome, is_told_apart}
 use Rattle.replay.proofs.write.write_calls.Goals as goal
 
