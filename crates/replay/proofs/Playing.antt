@@ -1,40 +1,27 @@
 -- A list of calls, call by call: what is left of it gives what all of it gives.
-use Rattle.std.proofs.Common.{◌≡◌, ℕ, ◌+◌, ◌<◌, ◌≤◌, List, [], ◌∷◌, ◌++◌, length, get_or, take, drop, set, sym, ap, ◌∙◌, ap₂, arith}
-use Rattle.std.proofs.lemmas.List.{at_drop_more, at_drop_all, take_more_set, append_assoc, append-nil, drop-set-lt, drop-drop, take-append-drop}
+use Rattle.std.proofs.Common.{◌≡◌, ℕ, ◌+◌, ◌<◌, List, [], ◌∷◌, ◌++◌, length, get_or, take, drop, set, sym, ap, ◌∙◌, ap₂}
+use Rattle.std.proofs.lemmas.List.{at_drop_more, take_more_set, append_assoc}
 use Rattle.cdf.specs.declared.entry.Entry.{Entry}
 use Rattle.model.specs.Decisions.{stage}
 use Rattle.model.specs.Runs.{World}
-use Rattle.replay.specs.declared.call.Answer.{Answer}
-use Rattle.replay.specs.declared.call.Call.{Call}
-use Rattle.replay.specs.Calls.{call_step}
+use Rattle.av1.specs.declared.call.Call.{Call}
+use Rattle.replay.specs.Calls.{Answered, call_step}
 use Rattle.replay.specs.Runs.{ran}
 
 -- call i of the list, made in world w over a map of length m and a sink with room r, answers a and leaves world v
-module _ (memory : ℕ) (room : List Entry → ℕ) (cs : List Call) (i : ℕ) (c : Call) (w : World stage) {a : Answer} {v : World stage} {m : ℕ} {r : List Entry → ℕ}
-    (long : m ≡ memory) (same : r ≡ room) (step : ◌≡◌ {A = Answer × World stage} (a, v) (call_step m r (get_or cs i c) w)) (within : i < length cs) where
-  stepped : ◌≡◌ {A = Answer × World stage} (a, v) (call_step memory room (get_or cs i c) w)
+module _ (memory : ℕ) (room : List Entry → ℕ) (cs : List Call) (i : ℕ) (c : Call) (w : World stage) {a : Answered} {v : World stage} {m : ℕ} {r : List Entry → ℕ}
+    (long : m ≡ memory) (same : r ≡ room) (step : ◌≡◌ {A = Answered × World stage} (a, v) (call_step m r (get_or cs i c) w)) (within : i < length cs) where
+  stepped : ◌≡◌ {A = Answered × World stage} (a, v) (call_step memory room (get_or cs i c) w)
   stepped = step ∙ ap₂ (λ n f. call_step n f (get_or cs i c) w) long same
 
   pub world_again : {z : World stage} → (ran memory room (drop i cs) w).world ≡ z → (ran memory room (drop (i + 1) cs) v).world ≡ z
   world_again inv =
-      ap (λ (p : Answer × World stage). (ran memory room (drop (i + 1) cs) p.1).world) stepped ∙ sym (at_drop_more (λ l. (ran memory room l w).world) cs i c within) ∙ inv
+      ap (λ (p : Answered × World stage). (ran memory room (drop (i + 1) cs) p.1).world) stepped ∙ sym (at_drop_more (λ l. (ran memory room l w).world) cs i c within) ∙ inv
 
-  pub answers_again : (as' : List Answer) {z : List Answer} → i < length as' → take i as' ++ (ran memory room (drop i cs) w).answers ≡ z
+  pub answers_again : (as' : List Answered) {z : List Answered} → i < length as' → take i as' ++ (ran memory room (drop i cs) w).answers ≡ z
       → take (i + 1) (set as' i a) ++ (ran memory room (drop (i + 1) cs) v).answers ≡ z
   answers_again as' h inv =
       ap (λ l. l ++ (ran memory room (drop (i + 1) cs) v).answers) (take_more_set as' i a h)
       ∙ append_assoc (take i as') (a ∷ []) (ran memory room (drop (i + 1) cs) v).answers
-      ∙ ap (λ (p : Answer × World stage). take i as' ++ (p.0 ∷ (ran memory room (drop (i + 1) cs) p.1).answers)) stepped
+      ∙ ap (λ (p : Answered × World stage). take i as' ++ (p.0 ∷ (ran memory room (drop (i + 1) cs) p.1).answers)) stepped
       ∙ sym (ap (λ l. take i as' ++ l) (at_drop_more (λ l. (ran memory room l w).answers) cs i c within)) ∙ inv
-
-pub rest_again : (i : ℕ) (a : Answer) (as' bs : List Answer) → drop i as' ≡ drop i bs → drop (i + 1) (set as' i a) ≡ drop (i + 1) bs
-rest_again i a as' bs h = drop-set-lt (i + 1) as' i a (omega arith) ∙ sym (drop-drop 1 i as') ∙ ap (drop 1) h ∙ drop-drop 1 i bs
-
-pub world_ends : (memory : ℕ) (room : List Entry → ℕ) (cs : List Call) (i : ℕ) (w : World stage) {z : World stage} → length cs ≤ i → (ran memory room (drop i cs) w).world ≡ z → w ≡ z
-world_ends memory room cs i w h inv = sym (at_drop_all (λ l. (ran memory room l w).world) cs i h) ∙ inv
-
-pub answers_end : (memory : ℕ) (room : List Entry → ℕ) (cs : List Call) (i : ℕ) (w : World stage) (as' bs : List Answer) {z : List Answer} → i ≡ length cs
-    → take i as' ++ (ran memory room (drop i cs) w).answers ≡ z → drop i as' ≡ drop i bs → as' ≡ z ++ drop (length cs) bs
-answers_end memory room cs i w as' bs e inv rest =
-    sym (take-append-drop i as')
-    ∙ (λ k. (sym (append-nil (take i as')) ∙ sym (ap (λ l. take i as' ++ l) (at_drop_all (λ l. (ran memory room l w).answers) cs i (omega arith))) ∙ inv) k ++ (rest ∙ ap (λ n. drop n bs) e) k)

@@ -1,5 +1,5 @@
 -- A list of calls is a run of the model, so that the laws over runs hold of it.
-use Rattle.std.proofs.Common.{◌≡◌, ℕ, suc, ◌*◌, ◌<◌, List, [], ◌∷◌, ◌++◌, map, length, take, sym, refl, ap, ◌∙◌, subst, subst₂}
+use Rattle.std.proofs.Common.{◌≡◌, ℕ, suc, ◌*◌, ◌<◌, List, [], ◌∷◌, ◌++◌, map, length, take, sym, refl, ap, ◌∙◌, ap₂, subst, subst₂}
 use mathlib.Core.Option.{Option, none, some}
 use Rattle.std.proofs.Math.Seq.{take-append_seam}
 use Rattle.std.proofs.lemmas.List.{length-map}
@@ -8,26 +8,25 @@ use Rattle.av1.specs.declared.tile.Cell.{Cell}
 use Rattle.cdf.specs.declared.entry.Entry.{Entry}
 use Rattle.model.specs.declared.Question.{Question}
 use Rattle.model.specs.Decisions.{State, Sound, Decision, stage, units}
-use Rattle.model.specs.Runs.{World, Core, Lent, Standing, Book, noted, empty_book, fresh, as_call, Accepted, answered, refusal, step, run, symbol}
+use Rattle.model.specs.Runs.{World, Core, Lent, Standing, Book, Asking, ask, open_trial, take_back, keep, noted, empty_book, fresh, as_call, Accepted, answered, refusal, step, run, symbol}
 use Rattle.model.specs.Worked.{start}
 use Rattle.model.proofs.Staged.{stage_no_trace, stage_tells_apart}
-use Rattle.replay.specs.declared.call.Answer.{Answer}
-use Rattle.replay.specs.declared.call.Call.{Call}
-use Rattle.replay.specs.declared.call.Call.TheVariants as call
-use Rattle.replay.specs.Calls.{asking, answer_of, call_step}
-use Rattle.replay.specs.Runs.{ran, told_of, book_of, standing, started, Outcome, NoTraceOf, ToldApart, SymbolsDiffer, refused_in, RefusedWhereAsked}
+use Rattle.av1.specs.declared.call.Call.{Call}
+use Rattle.av1.specs.declared.call.Call.TheVariants as call
+use Rattle.replay.specs.Calls.{Answered, asking, answer_of, call_step}
+use Rattle.replay.specs.Runs.{ran, told_of, book_of, standing, started, Outcome, NoTraceOf, ToldApart, SymbolsDiffer, RefusedWhereAsked}
 use Rattle.stage.specs.declared.state.Stage.{Stage}
-use Rattle.stage.specs.View.{units_of, world}
+use Rattle.stage.specs.View.{refused_by, units_of, world}
 
 -- what a call tells is seen in its answer
 told_again : (w : World stage) (c : Call) (o : Option Refusal) → told_of c (answer_of (answered stage w (asking c) o).answer) ≡ (answered stage w (asking c) o).answer
 told_again w c (some e) = refl
-told_again w (call.Partition x y z p) none = refl
-told_again w (call.Skip x y z flag) none = refl
-told_again w (call.Segment x y z skip id) none = refl
+told_again w (call.Partition bo z p) none = refl
+told_again w (call.Skip bo z flag) none = refl
+told_again w (call.Segment bo z id) none = refl
 told_again w (call.Alphas u v) none = refl
 told_again w (call.Vector row col p) none = refl
-told_again w (call.ContextUpdate x y z sub) none = refl
+told_again w (call.ContextUpdate bo z sub) none = refl
 told_again w call.RowStart none = refl
 told_again w call.Open none = refl
 told_again w (call.TakeBack depth) none = refl
@@ -51,49 +50,41 @@ module _ (memory : ℕ) (room : List Entry → ℕ) where
       ∙ ran_book cs (step stage memory room w (asking c)).world (noted b (asking c) (step stage memory room w (asking c)).answer)
 
 -- the standing calls by the answers are the model's
-standing_is : (memory : ℕ) (room : List Entry → ℕ) (from : State) (lent : Lent stage) (cs : List Call) {answers : List Answer}
+standing_is : (memory : ℕ) (room : List Entry → ℕ) (from : State) (lent : Lent stage) (cs : List Call) {answers : List Answered}
     → (ran memory room cs (fresh stage from lent)).answers ≡ answers
     → (run stage memory room (fresh stage from lent) (empty_book stage) (map asking cs)).book.standing ≡ standing cs answers
 standing_is memory room from lent cs told =
     sym (ap (λ (b : Book Question Decision). b.standing) (ran_book memory room cs (fresh stage from lent) (empty_book stage))) ∙ ap (standing cs) told
 
 -- each answer has the refusal of the questions
-refused_seen : (w : World stage) (c : Call) (o : Option Refusal) → refused_in (answer_of (answered stage w (asking c) o).answer) ≡ o
-refused_seen w c (some e) = refl
-refused_seen w (call.Partition x y z p) none = refl
-refused_seen w (call.Skip x y z flag) none = refl
-refused_seen w (call.Segment x y z skip id) none = refl
-refused_seen w (call.Alphas u v) none = refl
-refused_seen w (call.Vector row col p) none = refl
-refused_seen w (call.ContextUpdate x y z sub) none = refl
-refused_seen w call.RowStart none = refl
-refused_seen w call.Open none = refl
-refused_seen w (call.TakeBack depth) none = refl
-refused_seen w (call.Keep depth) none = refl
+refused_seen : (w : World stage) (a : Asking stage) (o : Option Refusal) → refused_by (answer_of (answered stage w a o).answer) ≡ o
+refused_seen w a (some e) = refl
+refused_seen w (ask q d) none = refl
+refused_seen w open_trial none = refl
+refused_seen w (take_back k) none = refl
+refused_seen w (keep k) none = refl
 
 ran_refused : (memory : ℕ) (room : List Entry → ℕ) (cs : List Call) (w : World stage) → RefusedWhereAsked memory room w cs (ran memory room cs w).answers
 unfolding call_step
 ran_refused memory room [] w = tt
 ran_refused memory room (c ∷ cs) w =
-    (refused_seen w c (refusal stage memory room w (asking c)), ran_refused memory room cs (step stage memory room w (asking c)).world)
+    (refused_seen w (asking c) (refusal stage memory room w (asking c)), ran_refused memory room cs (step stage memory room w (asking c)).world)
 
 -- where a memory begins with the answers, its front is the answers
-pub front_answers : (memory : ℕ) (room : List Entry → ℕ) (cs : List Call) (w : World stage) (as' rest : List Answer)
+pub front_answers : (memory : ℕ) (room : List Entry → ℕ) (cs : List Call) (w : World stage) (as' rest : List Answered)
     → as' ≡ (ran memory room cs w).answers ++ rest → (ran memory room cs w).answers ≡ take (length cs) as'
 front_answers memory room cs w as' rest h =
     sym (ap (take (length cs)) h ∙ ap (λ n. take n ((ran memory room cs w).answers ++ rest)) (sym (ran_length memory room cs w)) ∙ take-append_seam (ran memory room cs w).answers rest)
 
-pub is_refused_where_asked : (memory : ℕ) (room : List Entry → ℕ) (cs : List Call) (w : World stage) {answers : List Answer}
+pub is_refused_where_asked : (memory : ℕ) (room : List Entry → ℕ) (cs : List Call) (w : World stage) {answers : List Answered}
     → (ran memory room cs w).answers ≡ answers → RefusedWhereAsked memory room w cs answers
 is_refused_where_asked memory room cs w told = subst (RefusedWhereAsked memory room w cs) told (ran_refused memory room cs w)
 
--- a stage that starts over an empty list starts alike over any list
-pub starts_over : (from : State) (s : Stage) (cells : List Cell) (lent : Lent stage) (es : List Entry) → world s cells lent [] ≡ fresh stage from lent
-    → world s cells lent es ≡ started from lent es
-starts_over from s cells lent es h =
-    ap (λ (w : World stage).
-    let again : World stage = record { core = record { state = w.core.state; entries = es }; small = w.small; large = w.large; spots = w.spots; marks = w.marks } in again)
-    h
+-- calls on a stage that starts over an empty list go as over any list
+pub from_start : (room : List Entry → ℕ) (from : State) (s : Stage) (cells : List Cell) (lent : Lent stage) (es : List Entry) (cs : List Call) {n : ℕ} → length cells ≡ n → world s cells lent [] ≡ fresh stage from lent
+    → ran (length cells) room cs (world s cells lent es) ≡ ran n room cs (started from lent es)
+from_start room from s cells lent es cs long h =
+    ap₂ (λ k (w : World stage). ran k room cs (record { core = record { state = w.core.state; entries = es }; small = w.small; large = w.large; spots = w.spots; marks = w.marks })) long h
 
 -- a stage at its start has columns × rows units
 pub start_units : (columns rows last : ℕ) (s : Stage) (cells : List Cell) (lent : Lent stage) → world s cells lent [] ≡ fresh stage (start columns rows last) lent
@@ -102,7 +93,7 @@ unfolding start
 start_units columns rows last s cells lent h = ap (λ (w : World stage). units w.core.state) h
 
 -- what holds of a list of calls over a sink that was empty
-module _ (memory : ℕ) (room : List Entry → ℕ) (from : State) (lent : Lent stage) (es : List Entry) (cs : List Call) {answers : List Answer} {end : World stage}
+module _ (memory : ℕ) (room : List Entry → ℕ) (from : State) (lent : Lent stage) (es : List Entry) (cs : List Call) {answers : List Answered} {end : World stage}
     (answered : (ran memory room cs (started from lent es)).answers ≡ answers) (ended : (ran memory room cs (started from lent es)).world ≡ end) (empty : es ≡ []) where
   as_told : (ran memory room cs (fresh stage from lent)).answers ≡ answers
   as_told = ap (λ l. (ran memory room cs (started from lent l)).answers) (sym empty) ∙ answered

@@ -6,30 +6,25 @@ use Rattle.cdf.specs.declared.entry.Entry.{Entry}
 use Rattle.journal.specs.declared.Mark.{Mark}
 use Rattle.journal.specs.declared.Spot.{Spot}
 use Rattle.journal.specs.declared.Spot.TheVariants as spot
-use Rattle.journal.specs.declared.Window.{Window}
 use Rattle.model.specs.Decisions.{State, stage, units, decided, put_back, put_spot}
-use Rattle.model.specs.Runs.{World, Asking, ask, open_trial, take_back, keep, answered, done_call, at_mark, kept_marks, trail_of, above, refusal, unwound}
+use Rattle.model.specs.Runs.{World, Asking, ask, open_trial, take_back, keep, answered, done_call, at_mark, kept_marks, trail_of, above, refusal}
+use Rattle.model.proofs.Trails.{unwound_sound}
 use Rattle.model.proofs.Staged.{stage_laws}
-use Rattle.replay.specs.declared.call.Answer.{Answer}
-use Rattle.replay.specs.declared.call.Call.{Call}
-use Rattle.replay.specs.Calls.{asking, call_step}
+use Rattle.av1.specs.declared.call.Call.{Call}
+use Rattle.replay.specs.Calls.{Answered, asking, call_step}
 
-windows_units : {n : ℕ} (rs : List (Window n)) (s : State) → units (unwound put_back s rs) ≡ units s
-windows_units [] s = refl
-windows_units (r ∷ rs) s = windows_units rs s
-
-spots_units : (rs : List Spot) (s : State) → units (unwound put_spot s rs) ≡ units s
-spots_units [] s = refl
-spots_units (spot.Cell i c ∷ rs) s = spots_units rs s
-spots_units (spot.Above i b ∷ rs) s = spots_units rs s
-spots_units (spot.Left i b ∷ rs) s = spots_units rs s
+spot_units : (s : State) (r : Spot) → units (put_spot s r) ≡ units s
+spot_units s (spot.Cell i c) = refl
+spot_units s (spot.Above i b) = refl
+spot_units s (spot.Left i b) = refl
 
 back_units : (w : World stage) (ms : List Mark) → units (at_mark stage w ms).core.state ≡ units w.core.state
 back_units w [] = refl
 back_units w (m ∷ ms) =
     let t = above stage (trail_of stage w) m in
-    spots_units t.spots (unwound put_back (unwound put_back w.core.state t.small) t.large)
-    ∙ windows_units t.large (unwound put_back w.core.state t.small) ∙ windows_units t.small w.core.state
+    let as_many : State → Type 0 = λ s. units s ≡ units w.core.state in
+    unwound_sound as_many put_spot (λ s r h. spot_units s r ∙ h) _ t.spots
+    (unwound_sound as_many put_back (λ s r h. h) _ t.large (unwound_sound as_many put_back (λ s r h. h) w.core.state t.small refl))
 
 kept_units : (w : World stage) (ms : List Mark) → units (kept_marks stage w ms).core.state ≡ units w.core.state
 kept_units w [] = refl
@@ -46,7 +41,7 @@ answered_units : (w : World stage) (c : Asking stage) (o : Option Refusal) → u
 answered_units w c none = done_units w c
 answered_units w c (some e) = refl
 
-pub step_units : (memory : ℕ) (room : List Entry → ℕ) (c : Call) (w : World stage) {a : Answer} {v : World stage} → ◌≡◌ {A = Answer × World stage} (a, v) (call_step memory room c w)
+pub step_units : (memory : ℕ) (room : List Entry → ℕ) (c : Call) (w : World stage) {a : Answered} {v : World stage} → ◌≡◌ {A = Answered × World stage} (a, v) (call_step memory room c w)
     → units v.core.state ≡ units w.core.state
 unfolding call_step
-step_units memory room c w h = ap (λ (p : Answer × World stage). units p.1.core.state) h ∙ answered_units w (asking c) (refusal stage memory room w (asking c))
+step_units memory room c w h = ap (λ (p : Answered × World stage). units p.1.core.state) h ∙ answered_units w (asking c) (refusal stage memory room w (asking c))

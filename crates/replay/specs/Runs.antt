@@ -1,5 +1,6 @@
 -- A list of calls from a start, the book of its standing calls, and what holds of any such list.
 use Rattle.std.specs.Prelude.{◌≡◌, ℕ, ◌<◌, ◌≤◌, cond, ◌≢◌, List, [], ◌∷◌, ◌++◌, map, length, Ok, Err, Result, nat_le, slice_index}
+use Rattle.std.specs.Option.{is_none}
 use Rattle.std.proofs.Math.Option.{Option, none, some}
 use Rattle.av1.specs.declared.refusal.Refusal.{Refusal}
 use Rattle.av1.specs.declared.tile.Cell.{Cell}
@@ -10,22 +11,21 @@ use Rattle.model.specs.declared.Question.TheVariants as of
 use Rattle.model.specs.Decisions.{State, Decision, stage, units, start_asked}
 use Rattle.model.specs.Runs.{World, Core, Lent, Book, Standing, Told, wrote, opened, ended, refused, noted, empty_book, fresh, as_call, Accepted, unused, symbol}
 use Rattle.model.specs.Runs as model
-use Rattle.replay.specs.declared.call.Answer.{Answer}
-use Rattle.replay.specs.declared.call.Answer.TheVariants as told
-use Rattle.replay.specs.declared.call.Call.{Call}
-use Rattle.replay.specs.declared.call.Call.TheVariants as call
+use Rattle.av1.specs.declared.call.Answer.TheVariants as told
+use Rattle.av1.specs.declared.call.Call.{Call}
+use Rattle.av1.specs.declared.call.Call.TheVariants as call
 use Rattle.replay.specs.declared.write.ReplayError.{ReplayError}
 use Rattle.replay.specs.declared.write.ReplayError.TheVariants as error
-use Rattle.replay.specs.Calls.{asking, call_step}
+use Rattle.replay.specs.Calls.{Answered, asking, call_step}
 use Rattle.stage.specs.declared.state.Stage.{Stage}
-use Rattle.stage.specs.View.{state_of}
+use Rattle.stage.specs.View.{refused_by, state_of}
 
 -- the world after a list of calls, and what each answered
 pub record Ran : Type 0 where
   pub world : World stage
-  pub answers : List Answer
+  pub answers : List Answered
 
-abbrev pub before : Answer → Ran → Ran
+abbrev pub before : Answered → Ran → Ran
 before a r = record { world = r.world; answers = a ∷ r.answers }
 
 -- the calls one after the other, those that are refused too
@@ -55,72 +55,54 @@ stopped_by (Err e) = some e
 
 -- the question of a call and its decision; a segment's is the one that the call answers
 abbrev pub stood : Call → ℕ → Standing stage
-stood (call.Partition x y z p) answered = record { question = of.Partition x y z; decision = number p }
-stood (call.Skip x y z flag) answered = record { question = of.Skip x y z; decision = flag }
-stood (call.Segment x y z skip id) answered = record { question = of.Segment x y z skip; decision = answered }
+stood (call.Partition bo z p) answered = record { question = of.Partition bo.x bo.y z; decision = number p }
+stood (call.Skip bo z flag) answered = record { question = of.Skip bo.x bo.y z; decision = flag }
+stood (call.Segment bo z id) answered = record { question = of.Segment bo.x bo.y z (is_none id); decision = answered }
 stood (call.Alphas u v) answered = record { question = of.Alphas; decision = (u, v) }
 stood (call.Vector row col p) answered = record { question = of.Vector p; decision = (row, col) }
-stood (call.ContextUpdate x y z sub) answered = record { question = of.ContextUpdate x y z sub; decision = tt }
-stood call.RowStart answered = record { question = of.RowStart; decision = tt }
-stood call.Open answered = record { question = of.RowStart; decision = tt }
-stood (call.TakeBack depth) answered = record { question = of.RowStart; decision = tt }
-stood (call.Keep depth) answered = record { question = of.RowStart; decision = tt }
+stood (call.ContextUpdate bo z sub) answered = record { question = of.ContextUpdate bo.x bo.y z sub; decision = tt }
+stood c answered = record { question = of.RowStart; decision = tt }
 
 -- what the book is told of a call: by the call and its answer alone
 abbrev pub told_done : Call → Told Question Decision
-told_done (call.Partition x y z p) = ended
-told_done (call.Skip x y z flag) = ended
-told_done (call.Segment x y z skip id) = ended
-told_done (call.Alphas u v) = ended
-told_done (call.Vector row col p) = ended
-told_done (call.ContextUpdate x y z sub) = wrote 0 (stood (call.ContextUpdate x y z sub) 0)
+told_done (call.ContextUpdate bo z sub) = wrote 0 (stood (call.ContextUpdate bo z sub) 0)
 told_done call.RowStart = wrote 0 (stood call.RowStart 0)
-told_done call.Open = ended
-told_done (call.TakeBack depth) = ended
-told_done (call.Keep depth) = ended
+told_done c = ended
 
-abbrev pub told_of : Call → Answer → Told Question Decision
-told_of c (told.Wrote n) = wrote n (stood c 0)
-told_of c (told.Segmented n id) = wrote n (stood c id)
-told_of c told.Done = told_done c
-told_of c (told.Opened depth) = opened depth
-told_of c (told.Refused why) = refused why
+abbrev pub told_of : Call → Answered → Told Question Decision
+told_of c (Ok (told.Wrote n)) = wrote n (stood c 0)
+told_of c (Ok (told.Segmented n id)) = wrote n (stood c id)
+told_of c (Ok told.Done) = told_done c
+told_of c (Ok (told.Opened depth)) = opened depth
+told_of c (Err why) = refused why
 
 -- the book, fed each call with its answer
-abbrev pub book_of : Book Question Decision → List Call → List Answer → Book Question Decision
+abbrev pub book_of : Book Question Decision → List Call → List Answered → Book Question Decision
 book_of b [] as' = b
 book_of b (c ∷ cs) [] = b
 book_of b (c ∷ cs) (a ∷ as') = book_of (noted b (asking c) (told_of c a)) cs as'
 
 -- the calls that were accepted and not taken back
-abbrev pub standing : List Call → List Answer → List (Standing stage)
+abbrev pub standing : List Call → List Answered → List (Standing stage)
 standing calls answers = (book_of (empty_book stage) calls answers).standing
 
--- the refusal in an answer
-abbrev pub refused_in : Answer → Option Refusal
-refused_in (told.Wrote n) = none
-refused_in (told.Segmented n id) = none
-refused_in told.Done = none
-refused_in (told.Opened depth) = none
-refused_in (told.Refused why) = some why
-
 -- each call was refused exactly where the questions say no, in the world that the calls before it left, and by the first no
-abbrev pub RefusedWhereAsked : ℕ → (List Entry → ℕ) → World stage → List Call → List Answer → Type 0
+abbrev pub RefusedWhereAsked : ℕ → (List Entry → ℕ) → World stage → List Call → List Answered → Type 0
 RefusedWhereAsked memory room w [] as' = Unit {0}
 RefusedWhereAsked memory room w (c ∷ cs) [] = ⊥
 RefusedWhereAsked memory room w (c ∷ cs) (a ∷ as') =
-    (refused_in a ≡ model.refusal stage memory room w (asking c)) × RefusedWhereAsked memory room (call_step memory room c w).1 cs as'
+    (refused_by a ≡ model.refusal stage memory room w (asking c)) × RefusedWhereAsked memory room (call_step memory room c w).1 cs as'
 
 -- No trace: on a fresh stage without trials, over a sink with the same room for each list and with any lanes and map, the
 -- standing calls alone are all accepted, and they leave the same tables, contexts, cells and record.
-abbrev pub NoTraceOf : (List Entry → ℕ) → State → List Call → List Answer → Core stage → Type 0
+abbrev pub NoTraceOf : (List Entry → ℕ) → State → List Call → List Answered → Core stage → Type 0
 NoTraceOf room from calls answers to =
     (memory : ℕ) (lent : Lent stage) → units from ≤ memory
     → let alone : List (model.Asking stage) = map (as_call stage) (standing calls answers) in
     Accepted stage memory room (fresh stage from lent) alone × ((model.run stage memory room (fresh stage from lent) (empty_book stage) alone).world.core ≡ to)
 
 -- these answers, and this record, are those of a list of calls from a start, over some sink, map and lanes
-pub record Outcome (from : State) (calls : List Call) (answers : List Answer) (entries : List Entry) : Type 0 where
+pub record Outcome (from : State) (calls : List Call) (answers : List Answered) (entries : List Entry) : Type 0 where
   pub memory : ℕ
   pub room : List Entry → ℕ
   pub lent : Lent stage
@@ -134,9 +116,9 @@ SymbolsDiffer one two =
 
 -- Told apart: another list of calls from the same start, whose standing calls first differ from these in the answer to one
 -- question, has a record that differs in a symbol.
-abbrev pub ToldApart : State → List Call → List Answer → List Entry → Type 0
+abbrev pub ToldApart : State → List Call → List Answered → List Entry → Type 0
 ToldApart from calls answers entries =
-    (calls' : List Call) (answers' : List Answer) (entries' : List Entry) → Outcome from calls' answers' entries'
+    (calls' : List Call) (answers' : List Answered) (entries' : List Entry) → Outcome from calls' answers' entries'
     → (same more more' : List (Standing stage)) (q : Question) (d e : Decision q)
     → standing calls answers ≡ same ++ record { question = q; decision = d } ∷ more
     → standing calls' answers' ≡ same ++ record { question = q; decision = e } ∷ more'

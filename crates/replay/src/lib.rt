@@ -4,5 +4,5 @@
 pub mod call;
 pub mod write;
 
-pub use crate::call::{Answer, Call, make_call};
+pub use crate::call::make_call;
 pub use crate::write::{ReplayError, write_calls};

@@ -5,8 +5,8 @@ ghost use Rattle.replay.specs.Runs.{ran, started, stopped_by, write_asked, core_
 ghost use Rattle.stage.specs.Lanes.{SameMemory};
 ghost use Rattle.stage.specs.View.{lanes, units_of, world};
 
-use crate::call::{Answer, Call, make_call};
-use av1::{Cell, Refusal};
+use crate::call::make_call;
+use av1::{Answer, Call, Cell, Refusal};
 use journal::Log;
 use record::Sink;
 use stage::Stage;
@@ -35,7 +35,7 @@ fn make_calls<S: Sink>(
     map: &mut [Cell],
     log: &mut Log<'_>,
     calls: &[Call],
-    answers: &mut [Answer],
+    answers: &mut [Result<Answer, Refusal>],
 )
     requires { length calls.now ≤ length answers.old }
     ensures world { world stage.new map.new (lanes log.new) (S.Sink.list sink.new) ≡ (ran (length map.old) (S.Sink.rooms sink.old) calls.now (world stage.old map.old (lanes log.old) (S.Sink.list sink.old))).world }
@@ -44,8 +44,9 @@ fn make_calls<S: Sink>(
     ensures rooms { S.Sink.rooms sink.new ≡ S.Sink.rooms sink.old }
     ensures memory { SameMemory log.new log.old }
 {
-    for i in 0..calls.len() {
-        answers[i] = make_call(stage, sink, map, log, calls[i]);
+    // Not `answers.iter_mut().zip(calls)`: tried, and the proof does not close, as it learns no value that is written so.
+    for (i, call) in calls.iter().enumerate() {
+        answers[i] = make_call(stage, sink, map, log, *call);
     }
 }
 
@@ -61,7 +62,7 @@ pub fn write_calls<S: Sink>(
     map: &mut [Cell],
     log: &mut Log<'_>,
     calls: &[Call],
-    answers: &mut [Answer],
+    answers: &mut [Result<Answer, Refusal>],
 ) -> Result<Stage, ReplayError>
     ensures asked { stopped_by result ≡ write_asked columns rows last (length map.old) (length calls.now) (length answers.old) }
     ensures world { IfOk result (λ s. world s map.new (lanes log.new) (S.Sink.list sink.new) ≡ (ran (length map.old) (S.Sink.rooms sink.old) calls.now (started (start columns rows last) (lanes log.old) (S.Sink.list sink.old))).world) }
