@@ -16,7 +16,8 @@ use Rattle.journal.specs.declared.Mark.{Mark}
 use Rattle.journal.specs.declared.Spot.{Spot}
 use Rattle.journal.specs.declared.Spot.TheVariants as spot
 use Rattle.model.specs.Calls.{log_if, spot_step, spot_steps}
-use Rattle.model.specs.Decisions.{State, stage, units, in_tile, put_at, block_cells, cells_of}
+use Rattle.journal.specs.Spots.{put_below}
+use Rattle.model.specs.Decisions.{State, stage, units, in_tile, block_cells, cells_of}
 use Rattle.model.specs.Facts.{with_cells}
 use Rattle.model.specs.Runs.{World, Lane, Lent}
 use Rattle.model.proofs.Facts.{cells_inside}
@@ -81,7 +82,7 @@ changes_world k h (i ∷ is) b w r e same =
     cells : List Cell
     cells = w.core.state.cells
 
-    here : set w.core.state.cells i (changed k (get_or w.core.state.cells i no_cell)) ≡ put_at (units w.core.state) i (h i) w.core.state.cells
+    here : set w.core.state.cells i (changed k (get_or w.core.state.cells i no_cell)) ≡ put_below (units w.core.state) i (h i) w.core.state.cells
     here =
         ap (λ c. set w.core.state.cells i c) (same i r.0)
         ∙ sym (ap (λ b. cond b (set w.core.state.cells i (h i)) w.core.state.cells) (T→true (ltb i (units w.core.state)) (lt→ltb i (units w.core.state) e.0)))
@@ -89,7 +90,7 @@ changes_world k h (i ∷ is) b w r e same =
     one : change_one w.marks k i (cells_in w) ≡ cells_in (spot_step (spot.Cell i (h i)) w)
     one = λ j. record { cells = here j; spots = log_if w.marks w.spots (spot.Cell i (get_or w.core.state.cells i no_cell) ∷ []) }
 
-    rest : (j : ℕ) → suc i ≤ j → changed k (get_or (put_at (units w.core.state) i (h i) w.core.state.cells) j no_cell) ≡ h j
+    rest : (j : ℕ) → suc i ≤ j → changed k (get_or (put_below (units w.core.state) i (h i) w.core.state.cells) j no_cell) ≡ h j
     rest j l =
         ap (λ c. changed k c) (ap (λ z. get_or z j no_cell) (sym here) ∙ get_or-set_other w.core.state.cells i j (changed k (get_or w.core.state.cells i no_cell)) no_cell (omega arith))
         ∙ same j (omega (arith, r.0))
