@@ -42,10 +42,9 @@ impl Journal {
         ensures kept { OnlySpots self.new self.old }
         ensures used { self.new.used.spots ≤ self.old.used.spots + count }
     {
-        for i in 0..count {
-            let was = bytes[first + i];
-            self.log_spot(spots, spot_of(side, first + i, was));
-            bytes[first + i] = byte;
+        for at in first..first + count {
+            self.log_spot(spots, spot_of(side, at, bytes[at]));
+            bytes[at] = byte;
         }
     }
 }

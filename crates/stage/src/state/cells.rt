@@ -77,8 +77,8 @@ impl Journal {
         ensures kept { OnlySpots self.new self.old }
         ensures used { self.new.used.spots ≤ self.old.used.spots + width }
     {
-        for i in 0..width {
-            self.set_cell(cells, spots, first + i, change);
+        for at in first..first + width {
+            self.set_cell(cells, spots, at, change);
         }
     }
 

@@ -6,9 +6,10 @@ use Rattle.stage.specs.View.{marks_of}
 use Rattle.stage.proofs.state.Journal.set_row.Given as goal
 
 -- changing what is left gives what changing all gives
-abbrev pub invariant-loop-i : goal.invariant-loop-i
-invariant-loop-i l =
+abbrev pub invariant-loop-at : goal.invariant-loop-at
+invariant-loop-at l =
     OnlySpots l.self l.initial.self
-    × (l.self.used.spots ≤ l.initial.self.used.spots + l.i)
-    × (change_each (marks_of l.initial.self) l.change (from (l.first + l.i) (l.width - l.i)) (logged_cells l.cells l.spots l.self.used.spots)
+    × (l.first ≤ l.at)
+    × (l.self.used.spots + l.first ≤ l.initial.self.used.spots + l.at)
+    × (change_each (marks_of l.initial.self) l.change (from l.at (l.first + l.width - l.at)) (logged_cells l.cells l.spots l.self.used.spots)
     ≡ change_each (marks_of l.initial.self) l.change (from l.first l.width) (logged_cells l.initial.cells l.initial.spots l.initial.self.used.spots))
