@@ -1,12 +1,8 @@
 -- A symbol leaves a lawful table lawful, whatever its number of symbols.
-use Rattle.std.proofs.Common.{◌≡◌, ℕ, zero, suc, ◌+◌, ◌-◌, ◌*◌, ◌/◌, ◌^◌, ◌<◌, ◌≤◌, Bool, true, false, cond, T, eqb, ltb, ◌⊎◌, List, [], ◌∷◌, ◌++◌, length, get_or, length-append, add-zero, zero-add, sym, refl, ap, ◌∙◌, subst, ap₂, inl, inr, div-lt_iff_lt-mul, add-mul, mul-le-mul_left, one-mul, div-le_self, arith, eqb→eq, ltb→lt, lt→ltb, ext_get_or, pow_pos, pow_mono}
-use native.Mathlib.Decide.{ℕ_discrete}
+use Rattle.std.proofs.Common.{◌≡◌, ℕ, suc, ◌+◌, ◌-◌, ◌*◌, ◌/◌, ◌^◌, ◌<◌, ◌≤◌, Bool, true, false, cond, T, ltb, ◌⊎◌, List, [], ◌∷◌, ◌++◌, length, get_or, length-append, add-zero, zero-add, sym, refl, ap, ◌∙◌, subst, ap₂, inl, inr, div-lt_iff_lt-mul, add-mul, mul-le-mul_left, one-mul, div-le_self, arith, ltb→lt, lt→ltb, pow_pos, pow_mono}
 use Rattle.std.proofs.lemmas.Bool.{cases_lt, lt-ltb, le-ltb}
 use Rattle.std.proofs.lemmas.Bool.Decides.{nat_tests}
 use native.Mathlib.Nat.{div-eq_of_lt, lt-div-mul-add}
-use lib.Dec.{eqb_refl}
-use Rattle.std.proofs.lemmas.List.{length-set, get_or-set_same, get_or-set_other}
-use Rattle.cdf.proofs.Booleans.{T→true, not-T→false, same_test}
 use Rattle.cdf.specs.Words.{moved, counted, moved_from, adapted, rate, Descends, LawfulTable, TableStaysLawful}
 use Rattle.std.proofs.lemmas.Grind.{common_steps}
 

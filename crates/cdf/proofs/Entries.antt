@@ -1,9 +1,9 @@
 -- The entry of a symbol of a lawful table is an entry.
-use Rattle.std.proofs.Common.{◌≡◌, ℕ, zero, suc, ◌+◌, ◌<◌, ◌≤◌, Bool, true, false, cond, ◌&&◌, ◌||◌, T, eqb, ltb, leb, List, [], ◌∷◌, length, get_or, subst, refl, arith, le→leb, eqb→eq, ltb→lt, lt→ltb, leb→le}
+use Rattle.std.proofs.Common.{◌≡◌, ℕ, zero, suc, ◌+◌, ◌<◌, ◌≤◌, true, List, [], ◌∷◌, length, get_or, arith}
 use Rattle.std.proofs.lemmas.Bool.Decides.{nat_tests}
 use Rattle.cdf.specs.Entries.{is_entry}
-use Rattle.cdf.specs.Layout.{words_in_all, tables, descends, all_descend, all_zero, fillers, lawful, table_sizes, in_layout}
-use Rattle.cdf.specs.Words.{Words, Table, words_of, fl_at, fh_at, entry_at, Descends, LawfulTable}
+use Rattle.cdf.specs.Layout.{descends, lawful}
+use Rattle.cdf.specs.Words.{fl_at, fh_at, entry_at, Descends, LawfulTable}
 use Rattle.cdf.proofs.Layouts.{descends_back}
 
 pub lawful_words : (vs : List ℕ) → descends 32768 vs ≡ true → LawfulTable vs

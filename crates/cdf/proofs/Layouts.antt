@@ -1,6 +1,6 @@
 -- The tables of the layout lie apart from each other and from the fillers, so that a symbol leaves the words sound.
-use Rattle.std.proofs.Common.{◌≡◌, ℕ, suc, ◌+◌, ◌-◌, ◌<◌, ◌≤◌, Bool, true, ◌&&◌, ◌||◌, T, eqb, ltb, leb, ◌⊎◌, List, [], ◌∷◌, length, get_or, take, drop, sym, refl, ap, ◌∙◌, subst, inl, inr, arith}
-use lib.Seq.{sets, length-sets}
+use Rattle.std.proofs.Common.{◌≡◌, ℕ, suc, ◌+◌, ◌<◌, ◌≤◌, Bool, true, ◌&&◌, ◌||◌, T, eqb, ltb, leb, ◌⊎◌, List, [], ◌∷◌, length, get_or, take, drop, sym, refl, ap, ◌∙◌, subst, inl, inr, arith}
+use lib.Seq.{length-sets}
 use Rattle.std.specs.List.{list_all, list_any}
 use Rattle.std.proofs.lemmas.Bool.{cases_lt, ltb-true, leb-true, eqb-true, le-leb, ne_eqb, and_parts, and_from, or_cases}
 use Rattle.std.proofs.lemmas.List.{length-take, length-drop, get_or_past}
@@ -8,7 +8,7 @@ use Rattle.std.proofs.lemmas.List.Folds.{Any-from_list_any}
 use Rattle.std.proofs.lemmas.List.Recursion.{and_at, and_from_places}
 use Rattle.std.proofs.lemmas.List.Sums.{AllPass-from_list_all}
 use Rattle.cdf.specs.Layout.{words_in_all, tables, small_tables, large_tables, fillers, descends, all_descend, all_zero, lawful, table_sizes, in_layout, WordsStaySound}
-use Rattle.cdf.specs.Words.{Words, Table, table, words_of, updated, adapted, LawfulTable, Descends}
+use Rattle.cdf.specs.Words.{Words, Table, table, words_of, updated, adapted, Descends}
 use Rattle.cdf.proofs.Adapting.{table_stays_lawful, length_moved}
 use Rattle.cdf.proofs.Ranges.{all_below, true_below}
 use Rattle.cdf.proofs.Stores.{sets_before, sets_behind, sets_there, getD_sets_out}
@@ -101,9 +101,9 @@ words_stay_sound w t s h sound = record {
   number = length-sets w t.first vs ∙ sound.number;
   fits = and_from _ _
       (and_from_places (all_descend after) (λ u. descends 32768 (words_of after u)) refl (λ _ _. refl) tables t
-          (λ i l. each (get_or tables i t) (AllPass-from_list_all (clear t) tables place.1.0 i t l) (and_at (all_descend w) (λ u. descends 32768 (words_of w u)) refl (λ _ _. refl) tables i t l law.0)))
+      (λ i l. each (get_or tables i t) (AllPass-from_list_all (clear t) tables place.1.0 i t l) (and_at (all_descend w) (λ u. descends 32768 (words_of w u)) refl (λ _ _. refl) tables i t l law.0)))
       (and_from_places (all_zero after) (λ i. eqb (get_or after i 0) 0) refl (λ _ _. refl) fillers 0
-          (λ k l. zero (get_or fillers k 0) (AllPass-from_list_all (off t) fillers place.1.1 k 0 l) (and_at (all_zero w) (λ i. eqb (get_or w i 0) 0) refl (λ _ _. refl) fillers k 0 l law.1)));
+      (λ k l. zero (get_or fillers k 0) (AllPass-from_list_all (off t) fillers place.1.1 k 0 l) (and_at (all_zero w) (λ i. eqb (get_or w i 0) 0) refl (λ _ _. refl) fillers k 0 l law.1)));
 }
   where
     vs : List ℕ

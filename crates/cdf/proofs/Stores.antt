@@ -1,5 +1,5 @@
 -- Stores of several words one behind the other.
-use Rattle.std.proofs.Common.{◌≡◌, ℕ, zero, suc, ◌+◌, ◌-◌, ◌<◌, ◌≤◌, ◌⊎◌, List, [], ◌∷◌, ◌++◌, length, get_or, take, drop, set, sym, refl, ap, ◌∙◌, inl, inr, arith, drop-cons}
+use Rattle.std.proofs.Common.{◌≡◌, ℕ, zero, suc, ◌+◌, ◌-◌, ◌<◌, ◌≤◌, ◌⊎◌, List, [], ◌∷◌, ◌++◌, length, get_or, take, drop, set, sym, refl, ap, ◌∙◌, inl, arith, drop-cons}
 use native.Mathlib.Decide.{dec_lt}
 use lib.Seq.{sets, sets-eq}
 use Rattle.std.proofs.lemmas.List.{set-set, set_comm, set-get_or, drop_all, drop-set-lt, drop-set-add, take-set-le, length-take, take_at, drop_at, append_assoc, get_or-set_other, get_or-set_same, length-set}

@@ -3,9 +3,8 @@ use Rattle.std.proofs.Common.{◌≡◌, ℕ, ◌+◌, ◌-◌, ◌≤◌, true,
 use lib.Seq.{sets}
 use borrow.Rule.Slice.PartMut.{put_mid, mid_of}
 use Rattle.std.proofs.lemmas.List.{drop-drop, length-take, length-drop}
-use Rattle.cdf.specs.declared.entry.Entry.{Entry}
 use Rattle.cdf.specs.Layout.{in_layout, words_in_all}
-use Rattle.cdf.specs.Words.{Words, Table, table, words_of, adapted, updated, entry_at}
+use Rattle.cdf.specs.Words.{Words, Table, table, words_of, adapted, updated}
 use Rattle.cdf.proofs.Adapting.{length_moved}
 use Rattle.cdf.proofs.Layouts.{table_inside}
 use Rattle.cdf.proofs.Stores.{sets_splice}

@@ -1,5 +1,5 @@
 -- Words are lawful exactly where each of them keeps to its limit.
-use Rattle.std.proofs.Common.{◌≡◌, ℕ, map, zero, suc, ◌+◌, ◌-◌, ◌<◌, ◌≤◌, Bool, true, false, ◌&&◌, ◌||◌, T, eqb, ltb, leb, List, [], ◌∷◌, ◌++◌, length, get_or, take, drop, sym, refl, ap, ◌∙◌, subst, ap₂, arith, le→leb, eqb→eq, ltb→lt, leb→le, drop-cons}
+use Rattle.std.proofs.Common.{◌≡◌, ℕ, map, zero, suc, ◌+◌, ◌-◌, ◌<◌, ◌≤◌, Bool, true, false, ◌&&◌, T, eqb, ltb, leb, List, [], ◌∷◌, ◌++◌, length, get_or, take, drop, sym, refl, ap, ◌∙◌, subst, ap₂, arith, eqb→eq, leb→le, drop-cons}
 use Rattle.std.specs.List.{list_all, list_any}
 use Rattle.std.proofs.lemmas.Bool.{ltb-true, leb-true, and_parts}
 use Rattle.std.proofs.lemmas.Bool.Decides.{nat_tests}
@@ -124,8 +124,8 @@ piece_at f k l h =
 pieces_each : (f : ℕ → Bool) → T (all_from f 0 words_in_all) → T (all_in f pieces)
 pieces_each f a =
     true→T _ (list_all-from_AllPass (λ p. all_from f p.0 p.1) pieces
-        (λ k d l. let p = get_or pieces k d in let m : p.0 + p.1 ≤ words_in_all = leb-true (p.0 + p.1) words_in_all (AllPass-from_list_all (λ p. leb (p.0 + p.1) words_in_all) pieces inside k d l) in
-            T→true _ (all_each f p.1 p.0 (λ i x y. all_at f words_in_all 0 a i (omega arith) (omega arith)))))
+    (λ k d l. let p = get_or pieces k d in let m : p.0 + p.1 ≤ words_in_all = leb-true (p.0 + p.1) words_in_all (AllPass-from_list_all (λ p. leb (p.0 + p.1) words_in_all) pieces inside k d l) in
+    T→true _ (all_each f p.1 p.0 (λ i x y. all_at f words_in_all 0 a i (omega arith) (omega arith)))))
 
 tables_limited : T (list_all limited tables)
 unfolding tables small_tables large_tables limits limited later

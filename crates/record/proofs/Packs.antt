@@ -1,18 +1,26 @@
 -- The packed bytes of a list, entry by entry.
-use Rattle.std.proofs.Common.{◌≡◌, ℕ, ◌+◌, ◌<◌, ◌≤◌, List, [], ◌∷◌, ◌++◌, length, get_or, take, sym, refl, ap, ◌∙◌}
-use Rattle.std.proofs.lemmas.List.{append_assoc, append-nil, length-append, take_more, take_all}
+use Rattle.std.proofs.Common.{◌≡◌, ℕ, zero, suc, ◌+◌, ◌*◌, ◌<◌, ◌≤◌, cond, ltb, List, [], ◌∷◌, ◌++◌, Option, Some, None, length, get_or, drop, sum_by, sym, refl, ap, ◌∙◌, arith, add-one, drop-cons}
+use Rattle.std.specs.List.{filter_map, range_with_len}
+use Rattle.std.specs.Result.{result_ok}
+use Rattle.std.proofs.lemmas.Bool.{lt-ltb}
+use Rattle.std.proofs.lemmas.List.{length-append, drop_all}
+use Rattle.std.proofs.lemmas.List.Recursion.{is_sum_by}
 use Rattle.cdf.specs.declared.entry.Entry.{Entry}
 use Rattle.record.specs.Packing.{packed_entry, packed}
-use Rattle.record.specs.Sinks.{no_entry}
+use Rattle.record.specs.Sinks.{no_entry, entry_answer}
 
-packed_append : (l m : List Entry) → packed (l ++ m) ≡ packed l ++ packed m
-packed_append [] m = refl
-packed_append (e ∷ l) m = ap (λ z. packed_entry e ++ z) (packed_append l m) ∙ sym (append_assoc (packed_entry e) (packed l) (packed m))
+-- what a sink answers at a place, if it has an entry there
+abbrev pub entry_there : List Entry → ℕ → Option Entry
+entry_there l i = result_ok (entry_answer l i)
 
-pub bytes_more : (l : List Entry) (i : ℕ) → i < length l → length (packed (take (i + 1) l)) ≡ length (packed (take i l)) + length (packed_entry (get_or l i no_entry))
-bytes_more l i h =
-    ap (λ z. length (packed z)) (take_more l i no_entry h) ∙ ap length (packed_append (take i l) (get_or l i no_entry ∷ []))
-    ∙ length-append (packed (take i l)) (packed_entry (get_or l i no_entry) ++ []) ∙ ap (λ z. length (packed (take i l)) + length z) (append-nil (packed_entry (get_or l i no_entry)))
+entries_from : (l : List Entry) (n i : ℕ) → i + n ≡ length l → filter_map (entry_there l) (range_with_len i n) ≡ drop i l
+entries_from l zero i h = sym (drop_all i l (omega arith))
+entries_from l (suc n) i h =
+    let here : i < length l = omega arith in
+    rw (lt-ltb i (length l) here) (ap (λ m. get_or l i no_entry ∷ m) (entries_from l n (i + 1) (omega arith) ∙ ap (λ k. drop k l) (add-one i)) ∙ sym (drop-cons l i no_entry here))
 
-pub bytes_all : (l : List Entry) (i : ℕ) → length l ≤ i → length (packed (take i l)) ≡ length (packed l)
-bytes_all l i h = ap (λ z. length (packed z)) (take_all i l h)
+pub all_entries : (l : List Entry) → filter_map (entry_there l) (range_with_len 0 (length l)) ≡ l
+all_entries l = entries_from l (length l) 0 (omega arith)
+
+pub packed_sum : (l : List Entry) → length (packed l) ≡ sum_by (λ e. length (packed_entry e)) l
+packed_sum l = is_sum_by (λ l. length (packed l)) (λ e. length (packed_entry e)) refl (λ e l. length-append (packed_entry e) (packed l)) l

@@ -8,12 +8,10 @@ use cdf::Entry;
 fn groups_len(n: u16) -> usize
     ensures { result ≡ length (groups n) }
 {
-    if n < 128 {
-        1
-    } else if n < 16384 {
-        2
-    } else {
-        3
+    match n {
+        0..128 => 1,
+        128..16384 => 2,
+        _ => 3,
     }
 }
 
@@ -22,19 +20,15 @@ pub fn packed_len(e: Entry) -> usize
     ensures value { result ≡ length (packed_entry e) }
     ensures most { result ≤ 12 }
 {
-    groups_len(e.s as u16) + groups_len(e.n as u16) + groups_len(e.fl) + groups_len(e.fh)
+    groups_len(e.s.into()) + groups_len(e.n.into()) + groups_len(e.fl) + groups_len(e.fh)
 }
 
 /// How many bytes all entries of a sink take where they are packed.
 pub fn packed_bytes<S: Sink>(sink: &S) -> usize
     ensures { result ≡ length (packed (S.Sink.list sink.now)) }
 {
-    let mut bytes = 0;
-    for i in 0..sink.count() {
-        match sink.entry(i) {
-            Ok(e) => bytes += packed_len(e),
-            Err(_) => unreachable(),
-        }
-    }
-    bytes
+    (0..sink.count())
+        .filter_map(|i| sink.entry(i).ok())
+        .map(packed_len)
+        .sum()
 }

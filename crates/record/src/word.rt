@@ -12,7 +12,9 @@ use std::alloc::{AllocError, Global};
 pub struct WordRecord {
     entries: Vec<Entry>,
     places: usize,
-    ghost held: { (vec_len entries ≤ places) × (places ≤ vec_capacity entries) × (places ≤ 16777216) },
+    ghost within: { vec_len entries ≤ places },
+    ghost reserved: { places ≤ vec_capacity entries },
+    ghost most: { places ≤ 16777216 },
 }
 
 impl WordRecord {
@@ -42,10 +44,7 @@ impl Sink for WordRecord {
     }
 
     fn entry(&self, i: usize) -> Result<Entry, Refusal> {
-        if i >= self.entries.len() {
-            return Err(Refusal::NoSuchEntry);
-        }
-        Ok(self.entries[i])
+        self.entries.get(i).copied().ok_or(Refusal::NoSuchEntry)
     }
 
     fn put(&mut self, e: Entry) -> Result<(), Refusal> {

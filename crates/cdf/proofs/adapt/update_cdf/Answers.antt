@@ -1,5 +1,4 @@
-use Rattle.std.proofs.Common.{◌≡◌, ℕ, ◌+◌, ◌<◌, length, ltb, ◌≢◌, List, ap, ◌∙◌, arith, get_or-set_other, get_or-set_same, rules, below_more}
-use Rattle.cdf.specs.Words.{moved}
+use Rattle.std.proofs.Common.{ℕ, ◌+◌, ◌<◌, length, ◌≢◌, arith, get_or-set_other, get_or-set_same, rules, below_more}
 use Rattle.cdf.proofs.Adapting.{adapts}
 use Rattle.cdf.proofs.adapt.update_cdf.Goals as goal
 

@@ -1,4 +1,4 @@
-use Rattle.std.proofs.Common.{◌≡◌, ◌≤◌, unwrap_or, ap, ◌∙◌, arith}
+use Rattle.std.proofs.Common.{◌≤◌, unwrap_or, ap, ◌∙◌, arith}
 use Rattle.cdf.specs.Layout.{table_sizes}
 use Rattle.cdf.proofs.layout.table_size.Goals as goal
 

@@ -1,4 +1,4 @@
-use Rattle.std.proofs.Common.{◌≡◌, ◌<◌, length, ap, ◌∙◌, arith, rules}
+use Rattle.std.proofs.Common.{◌≡◌, length, ap, ◌∙◌, arith, rules}
 use Rattle.cdf.specs.Entries.{is_entry}
 use Rattle.cdf.specs.Words.{entry_at}
 use Rattle.cdf.proofs.Entries.{entry_lawful}

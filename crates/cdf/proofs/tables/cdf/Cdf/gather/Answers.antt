@@ -1,4 +1,4 @@
-use Rattle.std.proofs.Common.{◌≡◌, ℕ, ◌≤◌, List, length, sum_by, sym, ◌∙◌, arith, rules}
+use Rattle.std.proofs.Common.{◌≡◌, ℕ, List, length, sum_by, sym, ◌∙◌, arith, rules}
 use Rattle.cdf.specs.Entries.{edge_symbols}
 use Rattle.cdf.specs.Words.{width_of}
 use Rattle.cdf.proofs.Edges.{edge_most, widths_sum}
