@@ -3,8 +3,8 @@
 
 use av1::Cell;
 use journal::{Log, Spot, Window};
-use record::WordRecord;
 use record::pack::packed_bytes;
+use record::{Sink, WordRecord};
 use replay::make_call;
 use script::{Answered, Digest, Recorded, Script, StartRefused, State};
 use stage::Stage;

@@ -3,6 +3,7 @@ use Rattle.std.specs.Prelude.{◌≡◌, ℕ, Bool, true, false, cond, List, [],
 use Rattle.std.specs.List.{find}
 use Rattle.std.specs.Option.{ok_or}
 use Rattle.std.specs.Str.{bytes_eq}
+use Rattle.av1.specs.Sizes.{all_sizes}
 use Rattle.av1.specs.declared.call.Call.{Call}
 use Rattle.av1.specs.declared.call.Call.TheVariants.{Partition, Skip, Segment, Alphas, Vector, ContextUpdate, RowStart, Open, TakeBack, Keep}
 use Rattle.script.specs.declared.fault.Fault.{Fault}
@@ -60,9 +61,6 @@ abbrev pub flag_name : Bool → List ℕ
 flag_name false = codes "0"
 flag_name true = codes "1"
 
-abbrev pub sizes : List BlockSize
-sizes = BLOCK_4X4 ∷ BLOCK_4X8 ∷ BLOCK_8X4 ∷ BLOCK_8X8 ∷ BLOCK_8X16 ∷ BLOCK_16X8 ∷ BLOCK_16X16 ∷ BLOCK_16X32 ∷ BLOCK_32X16 ∷ BLOCK_32X32 ∷ BLOCK_32X64 ∷ BLOCK_64X32 ∷ BLOCK_64X64 ∷ BLOCK_64X128 ∷ BLOCK_128X64 ∷ BLOCK_128X128 ∷ BLOCK_4X16 ∷ BLOCK_16X4 ∷ BLOCK_8X32 ∷ BLOCK_32X8 ∷ BLOCK_16X64 ∷ BLOCK_64X16 ∷ []
-
 abbrev pub partitions : List PartitionType
 partitions = PARTITION_NONE ∷ PARTITION_HORZ ∷ PARTITION_VERT ∷ PARTITION_SPLIT ∷ PARTITION_HORZ_A ∷ PARTITION_HORZ_B ∷ PARTITION_VERT_A ∷ PARTITION_VERT_B ∷ PARTITION_HORZ_4 ∷ PARTITION_VERT_4 ∷ []
 
@@ -81,7 +79,7 @@ abbrev pub read_name : {A : Type 0} → (A → List ℕ) → List A → Fault �
 read_name name all f w = ok_or (among name all w) f
 
 -- each name finds its value
-pub size_found : (z : BlockSize) → among size_name sizes (size_name z) ≡ Some z
+pub size_found : (z : BlockSize) → among size_name all_sizes (size_name z) ≡ Some z
 size_found BLOCK_4X4 = refl
 size_found BLOCK_4X8 = refl
 size_found BLOCK_8X4 = refl

@@ -6,12 +6,13 @@ use Rattle.av1.specs.declared.partition.PartitionType.{PartitionType}
 use Rattle.av1.specs.declared.size.BlockSize.{BlockSize}
 use Rattle.script.specs.declared.fault.Fault.{Fault}
 use Rattle.script.specs.declared.fault.Fault.TheVariants as no
+use Rattle.av1.specs.Sizes.{all_sizes}
 use Rattle.av1.specs.declared.call.Call.{Call}
 use Rattle.av1.specs.declared.call.Call.TheVariants.{Partition, Skip, Segment, Alphas, Vector, ContextUpdate, RowStart}
 use Rattle.av1.specs.declared.tile.TileBlockOffset.{TileBlockOffset}
 use Rattle.script.specs.declared.statement.Statement.{Statement}
 use Rattle.script.specs.declared.statement.Statement.TheVariants as says
-use Rattle.script.specs.Names.{size_name, partition_name, precision_name, flag_name, sizes, partitions, precisions, flags, read_name}
+use Rattle.script.specs.Names.{size_name, partition_name, precision_name, flag_name, partitions, precisions, flags, read_name}
 use Rattle.script.specs.Numbers.{read_number, read_integer, read_id}
 
 abbrev pub first : List (List ℕ) → Option (List ℕ)
@@ -42,7 +43,7 @@ abbrev pub named_at : {A : Type 0} → (A → List ℕ) → List A → Fault →
 named_at name all f ws = wanted (read_name name all f) (first ws)
 
 abbrev pub size_at : List (List ℕ) → Result BlockSize Fault
-size_at ws = named_at size_name sizes no.UnknownSize ws
+size_at ws = named_at size_name all_sizes no.UnknownSize ws
 
 abbrev pub partition_type_at : List (List ℕ) → Result PartitionType Fault
 partition_type_at ws = named_at partition_name partitions no.UnknownPartition ws

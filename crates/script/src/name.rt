@@ -1,5 +1,6 @@
 ghost use Rattle.std.specs.Prelude.{◌≡◌, ℕ, List, MatchOption, ◌≢◌, Some};
-ghost use Rattle.script.specs.Names.{size_name, partition_name, precision_name, flag_name, sizes, partitions, precisions, flags, among, size_found, partition_found, precision_found, flag_found};
+ghost use Rattle.av1.specs.Sizes.{all_sizes};
+ghost use Rattle.script.specs.Names.{size_name, partition_name, precision_name, flag_name, partitions, precisions, flags, among, size_found, partition_found, precision_found, flag_found};
 ghost use Rattle.script.specs.declared.fault.Fault.{Fault};
 ghost use Rattle.script.specs.declared.fault.Fault.TheVariants as no;
 
@@ -65,7 +66,7 @@ const SIZES: [BlockSize; 22] = [
 impl Named for BlockSize {
     ghost name = { size_name };
 
-    ghost all = { sizes };
+    ghost all = { all_sizes };
 
     const UNKNOWN: Fault = Fault::UnknownSize;
 

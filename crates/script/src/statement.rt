@@ -94,7 +94,7 @@ impl<'a> Words<'a> {
     fn sink(&mut self) -> Result<Statement, Fault>
         ensures { result ≡ sink_at (unread self.old.rest) }
     {
-        match self.next().ok_or(Fault::MissingWord)? {
+        match self.next_word().ok_or(Fault::MissingWord)? {
             "word" => {
                 let places = self.read()?;
                 self.end()?;
@@ -176,7 +176,7 @@ impl<'a> Words<'a> {
     pub(crate) fn statement(&mut self) -> Result<Statement, Fault>
         ensures { result ≡ statement_of (unread self.old.rest) }
     {
-        let Some(word) = self.next() else {
+        let Some(word) = self.next_word() else {
             return Ok(Statement::Blank);
         };
         match word {

@@ -40,7 +40,7 @@ impl<'a> Words<'a> {
     }
 
     /// The next word.
-    pub(crate) fn next(&mut self) -> Option<&'a str>
+    pub(crate) fn next_word(&mut self) -> Option<&'a str>
         ensures value { option_map (λ x. x.now) result ≡ first (unread self.old.rest) }
         ensures after { unread self.new.rest ≡ drop 1 (unread self.old.rest) }
     {
@@ -54,14 +54,14 @@ impl<'a> Words<'a> {
         ensures value { result ≡ wanted T.read_as (first (unread self.old.rest)) }
         ensures after { unread self.new.rest ≡ drop 1 (unread self.old.rest) }
     {
-        T::read(self.next().ok_or(Fault::MissingWord)?)
+        T::read(self.next_word().ok_or(Fault::MissingWord)?)
     }
 
     /// Asks that the line ends here.
     pub(crate) fn end(&mut self) -> Result<(), Fault>
         ensures { result ≡ end_at (unread self.old.rest) }
     {
-        match self.next() {
+        match self.next_word() {
             Some(_) => Err(Fault::ExtraWord),
             None => Ok(()),
         }

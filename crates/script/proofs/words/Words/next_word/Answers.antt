@@ -2,7 +2,7 @@ use Rattle.std.proofs.Common.{List, ℕ, sym, ap, ◌∙◌, Bor, rules}
 use Rattle.std.specs.Option.{option_map}
 use borrow.Author.Tests.{tests}
 use Rattle.script.proofs.Splitting.{next_word}
-use Rattle.script.proofs.words.Words.next.Goals as goal
+use Rattle.script.proofs.words.Words.next_word.Goals as goal
 
 abbrev text : Bor (List ℕ) → List ℕ
 text x = x.now
