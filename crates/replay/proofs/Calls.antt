@@ -24,13 +24,15 @@ mapped view (Ok x) (Err e) h same = elim h [ ]
 mapped view (Err e) b h same = h
 
 -- what the model's call answers, seen so, is what it tells
-told_so : {A : Type 0} (view : A → Answer) (a : A) (w : World stage) (c : Asking stage) → Ok (view a) ≡ answer_of (answered stage w c none).answer → (o : Option Refusal)
+told_so : {A : Type 0} (view : A → Answer) (a : A) (w : World stage) (c : Asking stage)
+    → Ok (view a) ≡ answer_of (answered stage w c none).answer → (o : Option Refusal)
     → seen view (answer_by o a) ≡ answer_of (answered stage w c o).answer
 told_so view a w c same none = same
 told_so view a w c same (some e) = refl
 
 -- the step of a call that is made, and whose result is mapped to an answer
-pub call_made : {A : Type 0} (view : A → Answer) {a : A} (memory : ℕ) (room : List Entry → ℕ) (w : World stage) {v : World stage} {c d : Call} {r : Result A Refusal} {b : Answered} {P : A → Answer → Type 0}
+pub call_made : {A : Type 0} (view : A → Answer) {a : A} (memory : ℕ) (room : List Entry → ℕ) (w : World stage)
+    {v : World stage} {c d : Call} {r : Result A Refusal} {b : Answered} {P : A → Answer → Type 0}
     → c ≡ d → MatchResult r (λ x. IsOkAnd b (P x)) (λ e. b ≡ Err e) → ((x : A) (y : Answer) → P x y → y ≡ view x)
     → ◌≡◌ {A = Result A Refusal × World stage} (r, v) (answer_by (refusal stage memory room w (asking d)) a, (step stage memory room w (asking d)).world)
     → Ok (view a) ≡ answer_of (answered stage w (asking d) none).answer

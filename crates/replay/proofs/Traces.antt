@@ -81,7 +81,8 @@ pub is_refused_where_asked : (memory : ℕ) (room : List Entry → ℕ) (cs : Li
 is_refused_where_asked memory room cs w told = subst (RefusedWhereAsked memory room w cs) told (ran_refused memory room cs w)
 
 -- calls on a stage that starts over an empty list go as over any list
-pub from_start : (room : List Entry → ℕ) (from : State) (s : Stage) (cells : List Cell) (lent : Lent stage) (es : List Entry) (cs : List Call) {n : ℕ} → length cells ≡ n → world s cells lent [] ≡ fresh stage from lent
+pub from_start : (room : List Entry → ℕ) (from : State) (s : Stage) (cells : List Cell) (lent : Lent stage) (es : List Entry) (cs : List Call) {n : ℕ}
+    → length cells ≡ n → world s cells lent [] ≡ fresh stage from lent
     → ran (length cells) room cs (world s cells lent es) ≡ ran n room cs (started from lent es)
 from_start room from s cells lent es cs long h =
     ap₂ (λ k (w : World stage). ran k room cs (record { core = record { state = w.core.state; entries = es }; small = w.small; large = w.large; spots = w.spots; marks = w.marks })) long h

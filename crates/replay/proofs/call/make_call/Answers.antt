@@ -27,13 +27,17 @@ returns-in-Segment-clause-step g c =
 pub returns-in-Alphas-clause-step : goal.returns-in-Alphas-clause-step
 unfolding decision_step
 returns-in-Alphas-clause-step g c =
-    call_made told.Wrote _ _ _ (c.in-Alphas.is ∙ sym (ap₂ call.Alphas (to_z-of_z {w = w32} (search rules)) (to_z-of_z {w = w32} (search rules)))) c.map-in-Alphas.ensures.cases (λ x y h. h)
+    call_made told.Wrote _ _ _
+    (c.in-Alphas.is ∙ sym (ap₂ call.Alphas (to_z-of_z {w = w32} (search rules)) (to_z-of_z {w = w32} (search rules))))
+    c.map-in-Alphas.ensures.cases (λ x y h. h)
     (c.write_cfl_alphas.ensures.step c.args.map.now) refl
 
 pub returns-in-Vector-clause-step : goal.returns-in-Vector-clause-step
 unfolding decision_step
 returns-in-Vector-clause-step g c =
-    call_made told.Wrote _ _ _ (c.in-Vector.is ∙ sym (ap₂ (λ a b. call.Vector a b c.in-Vector.precision) (to_z-of_z {w = w32} (search rules)) (to_z-of_z {w = w32} (search rules)))) c.map-in-Vector.ensures.cases (λ x y h. h)
+    call_made told.Wrote _ _ _
+    (c.in-Vector.is ∙ sym (ap₂ (λ a b. call.Vector a b c.in-Vector.precision) (to_z-of_z {w = w32} (search rules)) (to_z-of_z {w = w32} (search rules))))
+    c.map-in-Vector.ensures.cases (λ x y h. h)
     (c.write_mv.ensures.step c.args.map.now) refl
 
 pub returns-in-ContextUpdate-clause-step : goal.returns-in-ContextUpdate-clause-step
