@@ -4,12 +4,17 @@ ghost use Rattle.av1.specs.Tiles.{cell_of, above_of, left_of, above_left_of, fla
 
 use crate::tile::{Cell, Tile, TileBlockOffset};
 
+// Neighbours that may be absent are taken by let-else, as the project asks.
+
 // 1 for a cell that is there and skipped.
 fn skip_flag(cell: Option<Cell>) -> usize
     ensures value { result ≡ flag_of cell }
     ensures most { result ≤ 1 }
 {
-    usize::from(cell.is_some_and(|cell| cell.skip))
+    let Some(cell) = cell else {
+        return 0;
+    };
+    usize::from(cell.skip)
 }
 
 // Whether two neighbours have one segment; two absent ones do.
@@ -42,16 +47,19 @@ fn segment_context(above_left: Option<Cell>, above: Option<Cell>, left: Option<C
 fn segment_prediction(above_left: Option<Cell>, above: Option<Cell>, left: Option<Cell>) -> u8
     ensures { result ≡ natural (segment_prediction (prev above_left) (prev above) (prev left)) }
 {
-    match (above, left) {
-        (Some(up), Some(beside)) => {
-            if same_segment(above_left, above) {
-                up.segment
-            } else {
-                beside.segment
-            }
-        }
-        (Some(only), None) | (None, Some(only)) => only.segment,
-        (None, None) => 0,
+    let Some(up) = above else {
+        let Some(beside) = left else {
+            return 0;
+        };
+        return beside.segment;
+    };
+    let Some(beside) = left else {
+        return up.segment;
+    };
+    if same_segment(above_left, above) {
+        up.segment
+    } else {
+        beside.segment
     }
 }
 
