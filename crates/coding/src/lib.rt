@@ -20,7 +20,7 @@ fn digest(stage: &Stage, cells: &[Cell]) -> u64 {
     d.bytes(stage.above());
     d.bytes(stage.left());
     for c in cells {
-        d.byte(c.skip as u8);
+        d.byte(u8::from(c.skip));
         d.byte(c.segment);
     }
     d.value()

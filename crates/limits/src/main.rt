@@ -32,8 +32,11 @@ fn differences(heap: Global, case: &Case, came: &str) -> anyhow::Result<String> 
                 writeln!(&mut out, "line {at}: expected '{text}', came '{line}'")?;
             }
             None => {
-                let end = case.end;
-                writeln!(&mut out, "line {end}: expected nothing, came '{line}'")?;
+                writeln!(
+                    &mut out,
+                    "line {}: expected nothing, came '{line}'",
+                    case.end
+                )?;
             }
         }
     }

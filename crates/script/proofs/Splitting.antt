@@ -1,5 +1,5 @@
 -- The words of a line are the parts between blanks that are not empty.
-use Rattle.std.proofs.Common.{◌≡◌, ℕ, suc, ◌+◌, ◌-◌, ◌<◌, ◌≤◌, Bool, true, false, not, cond, ◌||◌, eqb, ◌≢◌, List, [], ◌∷◌, ◌++◌, length, get_or, take, drop, Some, None, Option, IfSome, MatchOption, sym, refl, ap, subst, ◌∙◌, ⊎_elim, append_assoc, append-nil, take-append-drop, arith, length-drop, Bor, ne_eqb, ◌==◌}
+use Rattle.std.proofs.Common.{◌≡◌, ℕ, suc, ◌<◌, ◌≤◌, Bool, true, false, not, cond, eqb, ◌≢◌, List, [], ◌∷◌, ◌++◌, length, get_or, take, drop, Some, None, Option, IfSome, MatchOption, sym, refl, ap, subst, ◌∙◌, ⊎_elim, append_assoc, append-nil, take-append-drop, arith, length-drop, Bor, ne_eqb, ◌==◌}
 use Rattle.std.specs.Char.{char_set_contains}
 use Rattle.std.specs.Fn.{Mut, CalledAt}
 use Rattle.std.specs.Iterator.{FindsItem, Yields}
@@ -7,7 +7,7 @@ use Rattle.std.specs.List.{All, FoldsTo, slice_split, onto_first}
 use Rattle.std.specs.Option.{option_map}
 use Rattle.std.specs.Str.{NoCharPasses}
 use Rattle.std.specs.Str.Iter.{split_steps, split_text, split_has_more, split_pattern}
-use Rattle.std.specs.Str.Pattern.{FindsBy, FindsChar}
+use Rattle.std.specs.Str.Pattern.{FindsBy}
 use Rattle.std.specs.declared.str.Split.{Split}
 use Rattle.std.proofs.lemmas.List.Elements.{All-from_get_or}
 use Rattle.std.proofs.lemmas.List.Splits.{slice_split_none, slice_split_at}

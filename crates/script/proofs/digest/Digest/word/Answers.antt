@@ -1,4 +1,4 @@
-use Rattle.std.proofs.Common.{◌≡◌, ℕ, ◌/◌, ◌%◌, List, [], ◌∷◌, ◌++◌, refl, rules}
+use Rattle.std.proofs.Common.{◌≡◌, ℕ, ◌/◌, ◌%◌, [], ◌∷◌, ◌++◌, refl, rules}
 use Rattle.script.specs.Digests.{step}
 use Rattle.script.proofs.Hashing.{one_more}
 use Rattle.script.proofs.digest.Digest.word.Goals as goal
