@@ -8,7 +8,7 @@ use journal::Log;
 use record::Sink;
 use stage::Stage;
 
-/// Makes a call, and answers what it answers.
+/// Makes a call: what it answers, or why it is refused.
 pub fn make_call<S: Sink>(
     stage: &mut Stage,
     sink: &mut S,
