@@ -1,5 +1,5 @@
 -- The packed bytes of a list, entry by entry.
-use Rattle.std.proofs.Common.{◌≡◌, ℕ, zero, suc, ◌+◌, ◌*◌, ◌<◌, ◌≤◌, cond, ltb, List, [], ◌∷◌, ◌++◌, Option, Some, None, length, get_or, drop, sum_by, sym, refl, ap, ◌∙◌, arith, add-one, drop-cons}
+use Rattle.std.proofs.Common.{◌≡◌, ℕ, zero, suc, ◌+◌, ◌<◌, List, ◌∷◌, Option, length, get_or, drop, sum_by, sym, refl, ap, ◌∙◌, arith, add-one, drop-cons}
 use Rattle.std.specs.List.{filter_map, range_with_len}
 use Rattle.std.specs.Result.{result_ok}
 use Rattle.std.proofs.lemmas.Bool.{lt-ltb}

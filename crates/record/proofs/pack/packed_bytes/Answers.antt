@@ -1,6 +1,6 @@
-use Rattle.std.proofs.Common.{◌≡◌, ℕ, ◌+◌, ◌<◌, ◌≤◌, List, length, sum_by, sym, ap, ◌∙◌, ◌^◌, arith, rules}
+use Rattle.std.proofs.Common.{◌≤◌, List, length, sum_by, sym, ap, ◌∙◌, ◌^◌, arith, rules}
 use Rattle.std.specs.List.{filter_map, range_with_len}
-use Rattle.std.proofs.lemmas.Iterator.{YieldsList, YieldsList-from_range, YieldsList-from_map}
+use Rattle.std.proofs.lemmas.Iterator.{YieldsList-from_range, YieldsList-from_map}
 use Rattle.std.proofs.lemmas.Iterator.Adapters.{fits_from_length, at_most_from_yields_List}
 use Rattle.std.proofs.lemmas.Iterator.Consumers.{YieldsList-at, YieldsList-from_filter_map, sum_by_from_yields_List}
 use Rattle.cdf.specs.declared.entry.Entry.{Entry}
