@@ -56,10 +56,6 @@ edge_world s j l es es' t k v e =
       marks = marks_of j;
     }
 
--- the symbol at an edge
-abbrev edge_of : ℕ → ℕ
-edge_of p = bool_byte (eqb p 3)
-
 as_number : (b : Bool) → bool_byte b ≡ cond b 1 0
 as_number true = refl
 as_number false = refl

@@ -36,14 +36,6 @@ same_trials j k h = ap (λ (v : ArrayVec Mark). length v.items) h.marks
 pub only_spots_then : (i j k : Journal) → OnlySpots i j → OnlySpots j k → OnlySpots i k
 only_spots_then i j k a b = record { marks = a.marks ∙ b.marks; small = a.small ∙ b.small; large = a.large ∙ b.large }
 
--- one word more of a copied window
-pub copied_more : (copy words : List ℕ) (first i : ℕ) → i < length copy → first + i < length words → take i copy ≡ take i (drop first words)
-    → take (i + 1) (set copy i (get_or words (first + i) 0)) ≡ take (i + 1) (drop first words)
-copied_more copy words first i here there same =
-    take_more_set copy i (get_or words (first + i) 0) here
-    ∙ ap₂ (λ xs x. xs ++ x ∷ []) same (sym (get_or-drop first words i 0))
-    ∙ sym (take_more (drop first words) i 0 (let l : length (drop first words) ≡ _ = length-drop first words in omega arith))
-
 -- a table's window lies in the words
 pub small_inside : (first n : ℕ) → in_layout (table first n) ≡ true → n ≤ 4 → first + 4 ≤ words_in_all
 small_inside first n h l = go (leb n 4) (T→true (leb n 4) (le→leb n 4 l)) (table_place (table first n) h)
@@ -58,10 +50,6 @@ large_inside first n h l = go (leb n 4) (not-T→false (leb n 4) (λ t. let k : 
     go : (b : Bool) → b ≡ false → PlaceOf b (table first n) → first + 16 ≤ words_in_all
     go true e p = absurd (true→T false (sym e))
     go false e p = leb→le (first + 16) words_in_all (true→T _ (inside_large first (replicate 16 0) p.0 (omega arith)))
-
--- what is logged: nothing while no trial is open
-pub log_quiet : {R : Type 0} (j : Journal) (l : Lane R) (rs : List R) → open_trials j ≡ 0 → l ≡ log_if (marks_of j) l rs
-log_quiet j l rs e = ap (λ ms. log_if ms l rs) (sym (none_open j e))
 
 pub log_open : {R : Type 0} (j : Journal) (l : Lane R) (rs : List R) → 0 < open_trials j → logged l rs ≡ log_if (marks_of j) l rs
 log_open {R} j l rs h = go (marks_of j) (omega (arith, length-reverse j.marks.items))

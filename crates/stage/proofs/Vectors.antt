@@ -69,11 +69,6 @@ fraction_room at.MV_SUBPEL_NONE m e h = absurd (e refl)
 fraction_room at.MV_SUBPEL_LOW_PRECISION m e h = h
 fraction_room at.MV_SUBPEL_HIGH_PRECISION m e h = h
 
-pub high_room : (p : MvSubpelPrecision) (m : Moment) → (high_count p ≡ 0 → ⊥) → RoomFor (high_count p) 0 m → RoomFor 1 0 m
-high_room at.MV_SUBPEL_NONE m e h = absurd (e refl)
-high_room at.MV_SUBPEL_LOW_PRECISION m e h = absurd (e refl)
-high_room at.MV_SUBPEL_HIGH_PRECISION m e h = h
-
 -- in class 0 the integer part is below 2
 pub low_offset : (c o : ℕ) → o < class_width c → c ≡ 0 → o / 8 < 2
 low_offset zero o h e = omega arith

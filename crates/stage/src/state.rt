@@ -30,7 +30,8 @@ pub(crate) struct Contexts {
     left: [u8; 8],
 }
 
-/// The moments at which the open trials were opened, the innermost last, and the undo records in use in each lane.
+/// The moments at which the open trials were opened, the innermost last, and the undo records in use in each lane. The
+/// lanes themselves are the caller's memory, lent to each call.
 #[derive(Drop)]
 pub(crate) struct Journal {
     marks: ArrayVec<Mark, 16>,

@@ -7,7 +7,8 @@ ghost use Rattle.stage.specs.View.{marks_of, open_trials};
 use crate::state::Journal;
 use journal::Spot;
 
-// Whose bytes: those above the tile, or those left of the superblock.
+// Whose bytes: those above the tile, or those left of the superblock. Data and not a closure, since the contracts speak
+// of it.
 #[derive(Clone, Copy)]
 pub(crate) enum Side {
     Above,
@@ -42,6 +43,7 @@ impl Journal {
         ensures kept { OnlySpots self.new self.old }
         ensures used { self.new.used.spots ≤ self.old.used.spots + count }
     {
+        // by places, not items: the place is what is logged
         for at in first..first + count {
             self.log_spot(spots, spot_of(side, at, bytes[at]));
             bytes[at] = byte;

@@ -11,7 +11,8 @@ use crate::state::symbols::log_record;
 use av1::{Block, Cell};
 use journal::Spot;
 
-// What a decision sets in each cell of its block.
+// What a decision sets in each cell of its block. Data and not a closure, since the contracts and the model speak of it,
+// and the project wants a loop over cells here.
 #[derive(Clone, Copy)]
 pub(crate) enum Change {
     Skip(bool),
@@ -47,7 +48,8 @@ impl Journal {
         log_record(spots, &mut self.used.spots, was);
     }
 
-    // Changes a cell, and logs what it was.
+    // Changes a cell, and logs what it was. `few` stands here and twice below, for the 32 bits of a place: a type around
+    // the lent cells would be taken apart at each of them.
     fn set_cell(&mut self, cells: &mut [Cell], spots: &mut [Spot], at: usize, change: Change)
         requires inside { at < length cells.old }
         requires few { length cells.old ≤ 1048576 }
@@ -77,6 +79,7 @@ impl Journal {
         ensures kept { OnlySpots self.new self.old }
         ensures used { self.new.used.spots ≤ self.old.used.spots + width }
     {
+        // by places, not items: the place is what is logged
         for at in first..first + width {
             self.set_cell(cells, spots, at, change);
         }

@@ -4,20 +4,6 @@ use Rattle.stage.proofs.Cells.{block_turn}
 use Rattle.stage.proofs.Symbols.{only_spots_then, same_marks, same_trials}
 use Rattle.stage.proofs.state.Journal.set_block.Goals as goal
 
-pub set_row-requires : goal.set_row-requires
-set_row-requires c =
-    let k : ℕ = c.loop-k.k in
-    let wide : ℕ = c.args.block.width in
-    let here : k < c.args.block.height = search rules in
-    let more : k + 1 ≤ c.args.block.height = omega arith in
-    let rows : (k + 1) * wide ≤ c.args.block.height * wide = mul-le-mul_right wide more in
-    let parts : (k + 1) * wide ≡ k * wide + wide = simp (add-mul, one-mul) in
-    record {
-      inside = omega (arith, c.requires.inside k here);
-      few = search rules;
-      room = λ h. omega (arith, c.requires.room (omega (arith, same_trials _ _ c.loop-k.invariant.0)), c.loop-k.invariant.1, rows, parts);
-    }
-
 pub loop-k-preserved : goal.loop-k-preserved
 loop-k-preserved c =
     let inv = c.loop-k.invariant in

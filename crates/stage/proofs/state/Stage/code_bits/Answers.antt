@@ -4,33 +4,6 @@ use Rattle.stage.specs.Coding.{Coded, Moment, moment, RoomFor}
 use Rattle.stage.proofs.Coding.{coded_none, coded_small, coded_bit, room_left}
 use Rattle.stage.proofs.state.Stage.code_bits.Goals as goal
 
-pub loop-i-init : goal.loop-i-init
-loop-i-init g c =
-    let k = g.S.Sink in
-    (omega arith, coded_none 0 [] (moment c.args.self.now c.args.log.now (k.rooms c.args.sink.now) (k.list c.args.sink.now)))
-
-pub invariant_of-symbol : goal.invariant_of-symbol
-invariant_of-symbol g c =
-    let i : ℕ = c.loop-i.i in
-    let below : i < c.args.n = search rules in
-    record { there = c.requires.tables i below }
-
-pub symbol-requires : goal.symbol-requires
-symbol-requires g c =
-    let k = g.S.Sink in
-    let i : ℕ = c.loop-i.i in
-    let below : i < c.args.n = search rules in
-    let from : Moment = moment c.args.self.now c.args.log.now (k.rooms c.args.sink.now) (k.list c.args.sink.now) in
-    let here : Moment = moment c.loop-i.self c.loop-i.log (k.rooms c.loop-i.sink) (k.list c.loop-i.sink) in
-    let room : RoomFor 1 0 here =
-    room_left (bits_tree c.args.first i) (bits_of i c.args.bits) i 0 1 0 c.args.n 0 from here c.loop-i.invariant.1 (omega arith) (omega arith) c.requires.room in
-    record {
-      symbol = omega arith;
-      room = omega (arith, room.entries);
-      small = λ some few. omega (arith, room.small some);
-      large = λ some many. absurd (omega arith);
-    }
-
 pub loop-i-preserved : goal.loop-i-preserved
 loop-i-preserved g c =
     let k = g.S.Sink in
@@ -44,12 +17,3 @@ loop-i-preserved g c =
       coded_bit i c.args.first c.args.bits from here next c.loop-i.invariant.1
           (coded_small (c.args.first + 2 * i) 2 (c.args.bits / 2 ^ i % 2) here next (omega arith) e.step e.rooms e.left e.few e.memory e.trials),
     )
-
-pub returns : goal.returns
-returns g c =
-    let k = g.S.Sink in
-    let i : ℕ = c.loop-i.i in
-    let all : i ≡ c.args.n = omega (arith, c.loop-i.invariant.0) in
-    subst (λ n. Coded (bits_tree c.args.first n) (bits_of n c.args.bits) n 0
-    (moment c.args.self.now c.args.log.now (k.rooms c.args.sink.now) (k.list c.args.sink.now))
-    (moment c.loop-i.self c.loop-i.log (k.rooms c.loop-i.sink) (k.list c.loop-i.sink))) all c.loop-i.invariant.1
