@@ -1,6 +1,6 @@
 -- Taking back in the stage is the model's: the walks over the lanes, and the world after them.
-use Rattle.std.proofs.Common.{◌≡◌, ℕ, zero, suc, ◌-◌, ◌<◌, Bool, true, false, cond, not, ◌&&◌, ◌||◌, eqb, ltb, leb, List, [], ◌∷◌, length, reverse, get_or, take, set, Ok, Err, sym, refl, ap, ◌∙◌, ap₂, arith}
-use mathlib.Core.Option.{Option, none, some}
+use Rattle.std.proofs.Common.{◌≡◌, ℕ, ◌-◌, ◌<◌, Bool, true, false, cond, not, ◌&&◌, ◌||◌, eqb, ltb, leb, List, [], ◌∷◌, length, reverse, get_or, take, set, Ok, Err, sym, refl, ap, ◌∙◌, ap₂, arith}
+use mathlib.Core.Option.{none, some}
 use Rattle.std.proofs.lemmas.List.{length-reverse, length-set}
 use Rattle.std.proofs.lemmas.Bool.{ne_eqb}
 use Rattle.av1.specs.declared.refusal.Refusal.{Refusal}

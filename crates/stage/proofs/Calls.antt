@@ -1,6 +1,5 @@
 -- The questions of a call and its outcome, as the model has them.
 use Rattle.journal.specs.declared.Mark.{Mark}
-use Rattle.stage.specs.View.{open_trials}
 use Rattle.std.proofs.lemmas.List.{length-reverse}
 use Rattle.std.proofs.Common.{◌≡◌, ℕ, zero, suc, ◌+◌, ◌*◌, Bool, true, false, cond, ◌&&◌, ltb, leb, List, [], ◌∷◌, map, length, Ok, Err, Result, sym, refl, ap, ◌∙◌, ap₂, suc-mul, arith, le→leb, lt→ltb}
 use mathlib.Core.Option.{Option, none, some}

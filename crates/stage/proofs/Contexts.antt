@@ -5,7 +5,7 @@ use Rattle.stage.proofs.Symbols.{same_marks, same_trials, none_open}
 use Rattle.stage.specs.View.{open_trials}
 use Rattle.std.proofs.lemmas.List.{length-reverse}
 use Rattle.std.proofs.Common.{◌≡◌, ℕ, zero, suc, ◌+◌, ◌/◌, ◌%◌, ◌<◌, ◌≤◌, Bool, true, false, cond, ◌&&◌, T, eqb, ltb, List, [], ◌∷◌, ◌++◌, map, length, get_or, set, replicate, Ok, Err, sym, refl, ap, ◌∙◌, ap₂, arith, eqb→eq, ltb→lt, lt→ltb}
-use mathlib.Core.Option.{none, some}
+use mathlib.Core.Option.{some}
 use Rattle.std.proofs.lemmas.List.{length-append, length-map}
 use Rattle.std.proofs.lemmas.Bool.{le-leb}
 use Rattle.av1.specs.declared.refusal.Refusal.{Refusal}

@@ -1,6 +1,5 @@
 -- A partition of the stage is the model's.
 use Rattle.journal.specs.declared.Counts.{Counts}
-use Rattle.stage.specs.View.{open_trials}
 use Rattle.std.proofs.Common.{◌≡◌, ℕ, zero, suc, ◌+◌, ◌-◌, ◌*◌, ◌<◌, Bool, true, false, cond, not, ◌&&◌, eqb, leb, List, [], ◌∷◌, ◌++◌, length, Some, None, Ok, Err, Result, sym, refl, ap, ◌∙◌, ap₂, arith}
 use mathlib.Core.Option.{Option}
 use mir.Val.{bool_byte}

@@ -53,10 +53,6 @@ segment_symbol id near last s h k same =
     inside : {a b : ℕ} → Some a ≡ Some b → a ≡ b
     inside p = cc
 
-pub decided_unskipped : (skip : Bool) (near id : ℕ) → skip ≡ false → id ≡ segment_decided skip near id
-decided_unskipped true near id h = absurd (true→T false (sym h))
-decided_unskipped false near id h = refl
-
 -- behind its symbol a segment has no more
 no_more : (P : Syntax ℕ → Type 0) → ((d : ℕ) → P (done d)) → P (never no.SymbolAboveLast) → (last near v : ℕ) → P (segment_read last near v)
 no_more P f g last near v = go (leb v last)

@@ -1,6 +1,6 @@
 -- A symbol in the stage: its window is logged, its entry joins the record, and its table adapts.
-use Rattle.std.proofs.Common.{◌≡◌, ℕ, zero, suc, ◌+◌, ◌<◌, ◌≤◌, Bool, true, false, cond, not, ◌&&◌, ltb, leb, List, [], ◌∷◌, ◌++◌, length, reverse, get_or, take, drop, set, replicate, Some, None, sym, refl, ap, ◌∙◌, ap₂, arith, le→leb, lt→ltb, leb→le}
-use Rattle.std.proofs.lemmas.List.{length-drop, length-reverse, get_or-drop, take_more, take_more_set}
+use Rattle.std.proofs.Common.{◌≡◌, ℕ, ◌+◌, ◌<◌, ◌≤◌, Bool, true, false, cond, ◌&&◌, ltb, leb, List, [], ◌∷◌, ◌++◌, length, reverse, replicate, Some, None, sym, refl, ap, ◌∙◌, ap₂, arith, le→leb, lt→ltb, leb→le}
+use Rattle.std.proofs.lemmas.List.{length-reverse}
 use Rattle.arrayvec.specs.ArrayVec.{ArrayVec}
 use Rattle.cdf.specs.declared.entry.Entry.{Entry}
 use Rattle.cdf.specs.Entries.{is_entry, entry_if}
@@ -61,15 +61,6 @@ log_open {R} j l rs h = go (marks_of j) (omega (arith, length-reverse j.marks.it
 -- the lane that a table's window goes to
 pub small_window : (w : Words) (first n : ℕ) → n ≤ 4 → small_log (whole (table first n)) w ≡ window_at 4 w first ∷ []
 small_window w first n h = ap (λ b. add_if b (window_at 4 w first) []) (T→true (leb n 4) (le→leb n 4 h))
-
-pub no_small_window : (w : Words) (first n : ℕ) → 4 < n → small_log (whole (table first n)) w ≡ []
-no_small_window w first n h = ap (λ b. add_if b (window_at 4 w first) []) (not-T→false (leb n 4) (λ t. let k : n ≤ 4 = leb→le n 4 t in omega arith))
-
-pub large_window : (w : Words) (first n : ℕ) → 4 < n → large_log (whole (table first n)) w ≡ window_at 16 w first ∷ []
-large_window w first n h = ap (λ b. add_if (not b) (window_at 16 w first) []) (not-T→false (leb n 4) (λ t. let k : n ≤ 4 = leb→le n 4 t in omega arith))
-
-pub no_large_window : (w : Words) (first n : ℕ) → n ≤ 4 → large_log (whole (table first n)) w ≡ []
-no_large_window w first n h = ap (λ b. add_if (not b) (window_at 16 w first) []) (T→true (leb n 4) (le→leb n 4 h))
 
 pub log_none : {R : Type 0} (j : Journal) (l : Lane R) (rs : List R) → rs ≡ [] → l ≡ log_if (marks_of j) l rs
 log_none {R} j l rs e = none (marks_of j) ∙ sym (ap (λ z. log_if (marks_of j) l z) e)

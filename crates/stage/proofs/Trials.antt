@@ -1,5 +1,5 @@
 -- Trials of the stage are the model's: opened, kept, taken back.
-use Rattle.std.proofs.Common.{◌≡◌, ℕ, suc, ◌+◌, ◌-◌, ◌<◌, ◌≤◌, Bool, true, false, cond, not, ◌||◌, eqb, ltb, List, [], ◌∷◌, ◌++◌, length, reverse, get_or, take, Ok, Err, Result, sym, refl, ap, ◌∙◌, arith}
+use Rattle.std.proofs.Common.{◌≡◌, ℕ, suc, ◌+◌, ◌-◌, ◌<◌, Bool, true, false, cond, not, ◌||◌, eqb, ltb, List, [], ◌∷◌, ◌++◌, length, reverse, get_or, take, Ok, Err, Result, sym, refl, ap, ◌∙◌, arith}
 use mathlib.Core.Option.{Option, none, some}
 use Rattle.std.proofs.lemmas.List.{length-reverse, reverse-append, take_all, take_more}
 use Rattle.std.proofs.lemmas.Bool.{lt-ltb, le-ltb, ne_eqb}
@@ -107,14 +107,14 @@ module _ (memory : ℕ) (room : List Entry → ℕ) (s : State) (j : Journal) (l
   keep_accepted depth u i h o fewer small large spots =
       (λ k. (Ok tt, record { core = here.core; small = lane l.small (small k); large = lane l.large (large k); spots = lane l.spots (spots k); marks = marks_of i }))
       ∙ ap (λ w. (Ok tt, w)) (
-        ap (λ n. record {
-          core = here.core;
-          small = lane l.small (cond (eqb n 0) 0 j.used.small);
-          large = lane l.large (cond (eqb n 0) 0 j.used.large);
-          spots = lane l.spots (cond (eqb n 0) 0 j.used.spots);
-          marks = marks_of i;
-        }) (sym (length-reverse i.marks.items))
-            ∙ sym (kept_world (get_or j.marks.items (open_trials j - 1) no_mark) (marks_of i))
-            ∙ ap (kept_marks stage here) (ap (λ ms. get_or j.marks.items (open_trials j - 1) no_mark ∷ reverse ms) fewer ∙ sym (marks_first j.marks.items h))
+      ap (λ n. record {
+        core = here.core;
+        small = lane l.small (cond (eqb n 0) 0 j.used.small);
+        large = lane l.large (cond (eqb n 0) 0 j.used.large);
+        spots = lane l.spots (cond (eqb n 0) 0 j.used.spots);
+        marks = marks_of i;
+      }) (sym (length-reverse i.marks.items))
+      ∙ sym (kept_world (get_or j.marks.items (open_trials j - 1) no_mark) (marks_of i))
+      ∙ ap (kept_marks stage here) (ap (λ ms. get_or j.marks.items (open_trials j - 1) no_mark ∷ reverse ms) fewer ∙ sym (marks_first j.marks.items h))
       )
       ∙ by_refusal tt here (keep depth) (refusal stage memory room here (keep depth)) none (innermost_is j depth ∙ ap refused_by (sym o))

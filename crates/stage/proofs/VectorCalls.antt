@@ -1,5 +1,4 @@
 -- A vector decision of the stage is the model's.
-use Rattle.stage.specs.View.{open_trials}
 use Rattle.std.proofs.Common.{◌≡◌, ℕ, zero, suc, ◌+◌, ◌*◌, ◌/◌, ◌%◌, ◌<◌, ◌≤◌, Bool, true, false, not, ◌&&◌, T, eqb, leb, List, [], ◌∷◌, ◌++◌, length, ℤ, pos, negsuc, Ok, Err, sym, refl, ap, ◌∙◌, subst, ap₂, subst₂, arith, le→leb, eqb→eq, leb→le}
 use mathlib.Core.Option.{Option}
 use lib.Dec.{eqb-suc-zero}

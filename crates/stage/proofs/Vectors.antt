@@ -1,7 +1,6 @@
 -- The parts of a vector's components: their tables, the room that they take, and what was coded of them.
 use Rattle.std.proofs.Common.{◌≡◌, ℕ, zero, suc, ◌+◌, ◌-◌, ◌*◌, ◌/◌, ◌%◌, ◌<◌, ◌≤◌, Bool, true, false, cond, T, leb, [], ◌∷◌, ◌++◌, ℤ, pos, negsuc, Some, None, Option, sym, refl, ap, ◌∙◌, subst, subst₂, inl, inr, ◌⊎◌, ◌||◌, eqb, arith, leb→le, eqb→eq}
 use Rattle.av1.specs.declared.mv.MvSubpelPrecision.{MvSubpelPrecision}
-use Rattle.av1.specs.declared.mv.MvSubpelPrecision.TheVariants as at
 use Rattle.av1.specs.Vectors.{class_base, class_of, magnitude, nonzero, offset_of, sign_bit, signed}
 use Rattle.cdf.specs.Layout.{row_base, col_base}
 use Rattle.model.specs.Tree.{Syntax, and_then, one, read_by}
@@ -55,19 +54,10 @@ pub high_in_layout : (b c : ℕ) → Component b → At (high_first b c) 2
 high_in_layout b zero h = moved_in_layout (b + 2 * 1) (b + 2) 2 (omega arith) ((base_of b h).two 1 (omega arith))
 high_in_layout b (suc c) h = moved_in_layout (b + 2 * 2) (b + 4) 2 (omega arith) ((base_of b h).two 2 (omega arith))
 
--- the room of the integer part, of the fraction and of the high bit
-pub lowest_room : (c : ℕ) (m : Moment) → c ≡ 0 → RoomFor (integer_count c) 0 m → RoomFor 1 0 m
-lowest_room zero m e h = h
-lowest_room (suc c) m e h = absurd (omega arith)
-
+-- the room of the integer part is that of its bits
 pub bits_room : (c : ℕ) (m : Moment) → (c ≡ 0 → ⊥) → RoomFor (integer_count c) 0 m → RoomFor c 0 m
 bits_room zero m e h = absurd (e refl)
 bits_room (suc c) m e h = h
-
-pub fraction_room : (p : MvSubpelPrecision) (m : Moment) → (fraction_count p ≡ 0 → ⊥) → RoomFor (fraction_count p) 0 m → RoomFor 1 0 m
-fraction_room at.MV_SUBPEL_NONE m e h = absurd (e refl)
-fraction_room at.MV_SUBPEL_LOW_PRECISION m e h = h
-fraction_room at.MV_SUBPEL_HIGH_PRECISION m e h = h
 
 -- in class 0 the integer part is below 2
 pub low_offset : (c o : ℕ) → o < class_width c → c ≡ 0 → o / 8 < 2

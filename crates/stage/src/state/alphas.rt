@@ -30,7 +30,15 @@ impl Stage {
         ensures trials { open_trials self.new.journal ≡ open_trials self.old.journal }
     {
         if let Some((context, index)) = scale {
-            self.symbol(sink, log, Table { first: 206 + 16 * context, n: 16 }, index);
+            self.symbol(
+                sink,
+                log,
+                Table {
+                    first: 206 + 16 * context,
+                    n: 16,
+                },
+                index,
+            );
         }
     }
 

@@ -53,8 +53,18 @@ impl Stage {
     {
         let mark = self.ask_back(sink.count(), map.len(), log, depth)?;
         let units = self.tile.units();
-        let _ = undo(log.small, mark.used.small, self.journal.used.small, &mut self.tables);
-        let _ = undo(log.large, mark.used.large, self.journal.used.large, &mut self.tables);
+        let _ = undo(
+            log.small,
+            mark.used.small,
+            self.journal.used.small,
+            &mut self.tables,
+        );
+        let _ = undo(
+            log.large,
+            mark.used.large,
+            self.journal.used.large,
+            &mut self.tables,
+        );
         let _ = undo_spots(
             log.spots,
             mark.used.spots,

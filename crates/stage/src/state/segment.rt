@@ -8,8 +8,8 @@ ghost use Rattle.stage.specs.Cells.{SegmentSet};
 ghost use Rattle.stage.specs.Lanes.{SameMemory};
 ghost use Rattle.stage.specs.View.{lanes, open_trials, units_of, world};
 
-use crate::state::{Stage, Table};
 use crate::state::cells::Change;
+use crate::state::{Stage, Table};
 use av1::{BlockSize, Cell, Refusal, TileBlockOffset, neg_interleave};
 use journal::{Counts, Log};
 use record::Sink;
@@ -55,7 +55,15 @@ impl Stage {
         let Some(s) = neg_interleave(segment, prediction, self.last + 1) else {
             unreachable()
         };
-        self.symbol(sink, log, Table { first: 30 + 8 * number, n: 8 }, s as usize);
+        self.symbol(
+            sink,
+            log,
+            Table {
+                first: 30 + 8 * number,
+                n: 8,
+            },
+            s as usize,
+        );
         segment
     }
 

@@ -5,8 +5,8 @@ ghost use Rattle.stage.specs.Cells.{FlagSet};
 ghost use Rattle.stage.specs.Lanes.{SameMemory};
 ghost use Rattle.stage.specs.View.{world, lanes, units_of};
 
-use crate::state::{Stage, Table};
 use crate::state::cells::Change;
+use crate::state::{Stage, Table};
 use av1::{BlockSize, Cell, Refusal, TileBlockOffset};
 use journal::{Counts, Log};
 use record::Sink;
@@ -44,7 +44,15 @@ impl Stage {
         )?;
         let cells = &mut map[0..tile.units()];
         let ctx = tile.skip_context(cells, bo);
-        self.symbol(sink, log, Table { first: 2 * ctx, n: 2 }, skip as usize);
+        self.symbol(
+            sink,
+            log,
+            Table {
+                first: 2 * ctx,
+                n: 2,
+            },
+            skip as usize,
+        );
         self.journal
             .set_block(cells, log.spots, tile.cols(), block, Change::Skip(skip));
         Ok(1)

@@ -64,9 +64,17 @@ impl Journal {
             return;
         }
         if table.n <= 4 {
-            log_record(log.small, &mut self.used.small, window_of(tables.words(), table.first));
+            log_record(
+                log.small,
+                &mut self.used.small,
+                window_of(tables.words(), table.first),
+            );
         } else {
-            log_record(log.large, &mut self.used.large, window_of(tables.words(), table.first));
+            log_record(
+                log.large,
+                &mut self.used.large,
+                window_of(tables.words(), table.first),
+            );
         }
     }
 }

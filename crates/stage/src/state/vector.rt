@@ -124,7 +124,15 @@ impl Stage {
     {
         for i in 0..n {
             let bit = (bits >> i) % 2;
-            self.symbol(sink, log, Table { first: first + 2 * i, n: 2 }, bit as usize);
+            self.symbol(
+                sink,
+                log,
+                Table {
+                    first: first + 2 * i,
+                    n: 2,
+                },
+                bit as usize,
+            );
         }
     }
 
@@ -237,8 +245,24 @@ impl Stage {
             return;
         }
         let (class, offset) = get_mv_class(mag - 1);
-        self.symbol(sink, log, Table { first: tables.base, n: 2 }, sign as usize);
-        self.symbol(sink, log, Table { first: tables.base + 40, n: 11 }, class);
+        self.symbol(
+            sink,
+            log,
+            Table {
+                first: tables.base,
+                n: 2,
+            },
+            sign as usize,
+        );
+        self.symbol(
+            sink,
+            log,
+            Table {
+                first: tables.base + 40,
+                n: 11,
+            },
+            class,
+        );
         self.code_offset(sink, log, tables, precision, class, offset);
     }
 

@@ -1,7 +1,6 @@
-use Rattle.std.proofs.Common.{◌≡◌, ℕ, ◌+◌, ◌*◌, ◌<◌, ◌≤◌, ◌∙◌, ap₂, mul-le-mul_right, add-mul, one-mul, arith, rules}
-use Rattle.stage.specs.View.{marks_of}
+use Rattle.std.proofs.Common.{◌≡◌, ℕ, ◌+◌, ◌*◌, ◌<◌, add-mul, one-mul, arith, rules}
 use Rattle.stage.proofs.Cells.{block_turn}
-use Rattle.stage.proofs.Symbols.{only_spots_then, same_marks, same_trials}
+use Rattle.stage.proofs.Symbols.{only_spots_then, same_marks}
 use Rattle.stage.proofs.state.Journal.set_block.Goals as goal
 
 pub loop-k-preserved : goal.loop-k-preserved

@@ -1,6 +1,5 @@
-use Rattle.std.proofs.Common.{◌+◌, ◌<◌, ap, ◌∙◌, ap₂, arith, rules}
+use Rattle.std.proofs.Common.{◌+◌, ◌<◌, ap, arith, rules}
 use Rattle.stage.specs.Cells.{change_one}
-use Rattle.stage.specs.View.{marks_of}
 use Rattle.stage.proofs.Places.{next_turn}
 use Rattle.stage.proofs.Symbols.{only_spots_then, same_marks}
 use Rattle.stage.proofs.state.Journal.set_row.Goals as goal

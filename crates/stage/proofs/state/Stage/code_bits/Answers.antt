@@ -1,7 +1,6 @@
-use Rattle.std.proofs.Common.{◌≡◌, ℕ, ◌+◌, ◌*◌, ◌/◌, ◌%◌, ◌^◌, ◌<◌, [], subst, arith, rules}
-use Rattle.model.specs.Vector.{bits_of, bits_tree}
-use Rattle.stage.specs.Coding.{Coded, Moment, moment, RoomFor}
-use Rattle.stage.proofs.Coding.{coded_none, coded_small, coded_bit, room_left}
+use Rattle.std.proofs.Common.{ℕ, ◌+◌, ◌*◌, ◌/◌, ◌%◌, ◌^◌, ◌<◌, arith, rules}
+use Rattle.stage.specs.Coding.{Moment, moment}
+use Rattle.stage.proofs.Coding.{coded_small, coded_bit}
 use Rattle.stage.proofs.state.Stage.code_bits.Goals as goal
 
 pub loop-i-preserved : goal.loop-i-preserved

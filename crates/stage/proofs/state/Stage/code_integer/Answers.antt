@@ -1,7 +1,5 @@
-use Rattle.std.proofs.Common.{ap, ◌≡◌, ◌≤◌, arith, rules}
-use Rattle.cdf.specs.Words.{Table}
-use Rattle.stage.specs.Coding.{moment, RoomFor}
-use Rattle.stage.proofs.Vectors.{component_inside, lowest_in_layout, bits_in_layout, lowest_room, bits_room}
+use Rattle.std.proofs.Common.{◌≡◌, ◌≤◌, arith, rules}
+use Rattle.stage.proofs.Vectors.{component_inside, bits_in_layout, bits_room}
 use Rattle.stage.proofs.state.Stage.code_integer.Goals as goal
 
 pub code_bits-requires : goal.code_bits-requires

@@ -1,7 +1,7 @@
 use Rattle.std.proofs.Common.{is_none, ◌≡◌, ℕ, ◌≤◌, false, ◌∙◌, arith, rules}
 use Rattle.model.proofs.TreeTables.{segment_in_layout}
 use Rattle.stage.specs.View.{lanes, world}
-use Rattle.stage.proofs.Segments.{segment_symbol, segment_coded, decided_unskipped}
+use Rattle.stage.proofs.Segments.{segment_symbol, segment_coded}
 use Rattle.stage.proofs.state.Stage.code_segment.Goals as goal
 
 pub invariant_of-symbol : goal.invariant_of-symbol

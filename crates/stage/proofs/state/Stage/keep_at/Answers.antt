@@ -1,4 +1,4 @@
-use Rattle.std.proofs.Common.{◌≡◌, ◌-◌, ◌<◌, true, false, cond, eqb, length, sym, refl, ap, rules}
+use Rattle.std.proofs.Common.{◌≡◌, true, false, cond, eqb, length, sym, refl, ap, rules}
 use Rattle.std.proofs.lemmas.Result.{err_from_is_err_and}
 use Rattle.std.proofs.lemmas.Bool.{both_ways, eq-eqb}
 use Rattle.stage.specs.View.{state_of}

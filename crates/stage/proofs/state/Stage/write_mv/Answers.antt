@@ -1,4 +1,4 @@
-use Rattle.std.proofs.Common.{◌≡◌, ℕ, ◌+◌, ◌*◌, ◌%◌, ◌≤◌, not, eqb, [], ◌∷◌, length, ℤ, sym, refl, ◌∙◌, subst, ap₂, inl, inr, arith, to_z-of_z, w32, to_z, of_z, rules}
+use Rattle.std.proofs.Common.{◌≡◌, ℕ, ◌+◌, ◌*◌, ◌%◌, ◌≤◌, not, eqb, [], ◌∷◌, length, ℤ, sym, refl, ◌∙◌, subst, ap₂, arith, to_z-of_z, w32, to_z, of_z, rules}
 use mir.Val.{bool_byte}
 use Rattle.std.proofs.lemmas.Result.{err_from_is_err_and}
 use Rattle.av1.specs.declared.refusal.Refusal.TheVariants as no

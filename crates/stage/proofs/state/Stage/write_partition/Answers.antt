@@ -5,7 +5,6 @@ use Rattle.av1.specs.Partitions.{number}
 use Rattle.av1.specs.Sizes.{level}
 use Rattle.av1.specs.declared.tile.Cell.{Cell}
 use Rattle.cdf.specs.Words.{table}
-use Rattle.journal.specs.declared.Counts.{Counts}
 use Rattle.stage.specs.Partitions.{entries_at}
 use Rattle.stage.specs.View.{lanes, state_of, world}
 use Rattle.stage.proofs.Partitions.{same_table, same_fit, same_taken, same_coded, refused_square, refused_partition, refused_record, accepted}
