@@ -21,21 +21,13 @@ use record::Sink;
 fn fraction_symbols(precision: MvSubpelPrecision) -> usize
     ensures { result ≡ fraction_count precision }
 {
-    match precision {
-        MvSubpelPrecision::MV_SUBPEL_NONE => 0,
-        MvSubpelPrecision::MV_SUBPEL_LOW_PRECISION => 1,
-        MvSubpelPrecision::MV_SUBPEL_HIGH_PRECISION => 1,
-    }
+    usize::from(precision != MvSubpelPrecision::MV_SUBPEL_NONE)
 }
 
 fn high_symbols(precision: MvSubpelPrecision) -> usize
     ensures { result ≡ high_count precision }
 {
-    match precision {
-        MvSubpelPrecision::MV_SUBPEL_NONE => 0,
-        MvSubpelPrecision::MV_SUBPEL_LOW_PRECISION => 0,
-        MvSubpelPrecision::MV_SUBPEL_HIGH_PRECISION => 1,
-    }
+    usize::from(precision == MvSubpelPrecision::MV_SUBPEL_HIGH_PRECISION)
 }
 
 // How many symbols code a component of this magnitude, beside its class.
