@@ -60,6 +60,7 @@ pub fn lookup_follows_the_rule()
     ensures { partition_context_lookup ≡ map context_bytes all_sizes }
 {}
 
+// A block's two sides have a function each, as in rav1e: callers and contracts read one at a time.
 impl BlockSize {
     pub fn width_log2(self) -> usize
         ensures { result ≡ width_log2 self }

@@ -29,7 +29,7 @@ fn take_back<S: Sink>(
 {
     match held {
         Some(trial) => stage.take_back(sink, map, log, trial),
-        None => unreachable(),
+        None => unreachable!(),
     }
 }
 
@@ -42,7 +42,7 @@ fn keep(stage: &mut Stage, held: &mut Option<Trial>) -> Result<(), (Refusal, Tri
 {
     match held.take() {
         Some(trial) => stage.keep(trial),
-        None => unreachable(),
+        None => unreachable!(),
     }
 }
 
@@ -62,6 +62,6 @@ pub fn take_back_and_keep<S: Sink>(
     let kept = keep(stage, &mut held);
     match held {
         None => kept,
-        Some(_) => unreachable(),
+        Some(_) => unreachable!(),
     }
 }

@@ -14,6 +14,7 @@ ghost use Rattle.model.specs.Worked.{Worked, StartsSound};
 use av1::{BlockSize, MvSubpelPrecision};
 
 /// A call's kind and all values that the caller passes, memory and the decision aside.
+// x and y stand apart here, since the definitions of the model speak of each alone.
 #[derive(Clone, Copy)]
 pub enum Question {
     Partition {

@@ -111,6 +111,8 @@ impl Tile {
         Ok(())
     }
 
+    // The standard's two conditions, a line each: one function of side, place and half would be no plainer.
+
     /// Whether the lower half of a block at row `y` has rows in the tile.
     pub fn has_rows(&self, y: usize, bsize: BlockSize) -> bool
         ensures { result ≡ has_rows self.now.rows y bsize }

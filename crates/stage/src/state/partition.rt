@@ -98,7 +98,7 @@ impl Stage {
         ensures rooms { S.Sink.rooms sink.new ≡ S.Sink.rooms sink.old }
     {
         let Some(entry) = self.tables.edge_symbol(table.first, table.n, edge, s) else {
-            unreachable()
+            unreachable!()
         };
         put_entry(sink, entry);
     }

@@ -53,7 +53,7 @@ impl Stage {
         };
         let segment = segment as u8;
         let Some(s) = neg_interleave(segment, prediction, self.last + 1) else {
-            unreachable()
+            unreachable!()
         };
         self.symbol(
             sink,

@@ -106,7 +106,7 @@ impl Stage {
     {
         self.journal.log_table(log, &self.tables, table);
         let Some(entry) = self.tables.symbol_with_update(table.first, table.n, s) else {
-            unreachable()
+            unreachable!()
         };
         put_entry(sink, entry);
     }

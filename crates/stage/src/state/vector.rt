@@ -231,7 +231,7 @@ impl Stage {
         ensures { Coded (component_if (present comp) tables.base precision) (path_if precision comp) (component_count precision (magnitude comp)) (nonzero comp) (moment self.old log.old (S.Sink.rooms sink.old) (S.Sink.list sink.old)) (moment self.new log.new (S.Sink.rooms sink.new) (S.Sink.list sink.new)) }
     {
         let Some((sign, mag)) = split_component(comp) else {
-            unreachable()
+            unreachable!()
         };
         if mag == 0 {
             return;
