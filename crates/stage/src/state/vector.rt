@@ -149,7 +149,8 @@ impl Stage {
         }
     }
 
-    // Codes the fraction, unless the precision has none.
+    // Codes the fraction, unless the precision has none. Not one function with the next and with `code_scale`: its contract
+    // would have to be told the syntax and the path.
     fn code_fraction<S: Sink>(
         &mut self,
         sink: &mut S,
