@@ -1,4 +1,4 @@
--- Words by their names, and the words that a line still has.
+-- Values by their names, and a segment that is not skipped.
 use Rattle.std.proofs.Common.{◌≡◌, ℕ, Bool, true, false, cond, ◌≢◌, List, [], ◌∷◌, Some, None, Ok, Err, codes, Option, Result, sym, refl, ap, subst, ◌∙◌, IfSome, MatchOption, MatchResult}
 use Rattle.std.specs.Option.{option_map}
 use Rattle.std.specs.Str.{bytes_eq}

@@ -44,9 +44,9 @@ impl<'a> Words<'a> {
         ensures value { option_map (λ x. x.now) result ≡ first (unread self.old.rest) }
         ensures after { unread self.new.rest ≡ drop 1 (unread self.old.rest) }
     {
-        let word = self.rest.find(|word| !word.is_empty())?;
-        self.last = word;
-        Some(word)
+        let word = self.rest.find(|word| !word.is_empty());
+        self.last = word.unwrap_or(self.last);
+        word
     }
 
     /// The next word, read as what has to be there.
