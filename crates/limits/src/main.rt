@@ -50,9 +50,7 @@ fn run(rt: &HostRuntime) -> anyhow::Result<()> {
     let heap = rt.alloc();
     let mut args = env::args(rt)?;
     let _program = args.next();
-    let Some(path) = args.next() else {
-        return Err(anyhow!("usage: limits TABLE"));
-    };
+    let path = args.next().ok_or_else(|| anyhow!("usage: limits TABLE"))?;
     let table = fs::read_to_string(rt, path.as_str())?;
     let cases = cases(heap, table.as_str())?;
     let mut reports = Vec::new(heap);
@@ -61,10 +59,9 @@ fn run(rt: &HostRuntime) -> anyhow::Result<()> {
             Ok(text) => text,
             Err(e) => e.to_string(heap)?,
         };
-        reports.push(differences(heap, case, came.as_str())?)?;
-    }
-    for report in &reports {
+        let report = differences(heap, case, came.as_str())?;
         rt.print(report.as_str())?;
+        reports.push(report)?;
     }
     let equal = reports.iter().filter(|report| report.is_empty()).count();
     let all = reports.len();

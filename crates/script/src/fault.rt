@@ -76,10 +76,11 @@ impl ScriptError {
     pub fn at(heap: Global, line: usize, fault: Fault, word: &str) -> ScriptError
         ensures { Faulty line fault word.now result }
     {
-        match String::from_str(heap, word) {
-            Ok(word) => ScriptError::Line { line, fault, word },
-            Err(_) => ScriptError::Memory,
-        }
+        String::from_str(heap, word).map_or(ScriptError::Memory, |word| ScriptError::Line {
+            line,
+            fault,
+            word,
+        })
     }
 }
 

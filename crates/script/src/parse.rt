@@ -31,6 +31,7 @@ pub struct Script {
 fn finish(heap: Global, head: Head, text: &str, calls: Vec<Line>) -> Result<Script, ScriptError>
     ensures { Finishes head (length (lines text.now) + 1) calls.items result }
 {
+    // Not `ok_or_else`: tried, and the proof does not close, as what its closure answers is out of reach there.
     let Some(tile) = head.tile else {
         let end = text.lines().count() + 1;
         return Err(ScriptError::at(heap, end, Fault::NoTile, "end of script"));

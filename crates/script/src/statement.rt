@@ -8,6 +8,7 @@ use crate::words::Words;
 use av1::{Call, TileBlockOffset};
 
 /// The word that the line of a call begins with.
+// Text and no `Display`: a fault keeps the word as text, and a writer would only be asked for it again.
 pub fn call_word(call: Call) -> &'static str
     ensures { result.now ≡ call_name call }
 {

@@ -11,8 +11,8 @@ use crate::state::symbols::log_record;
 use av1::{Block, Cell};
 use journal::Spot;
 
-// What a decision sets in each cell of its block. Data and not a closure, since the contracts and the model speak of it,
-// and the project wants a loop over cells here.
+// What a decision sets in each cell of its block. Data and not a closure, since the contracts speak of it, and the
+// project wants a loop over cells here.
 #[derive(Clone, Copy)]
 pub(crate) enum Change {
     Skip(bool),

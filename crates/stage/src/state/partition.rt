@@ -53,6 +53,9 @@ fn partition_table(level: usize, ctx: usize) -> Table
     }
 }
 
+// `rows` and `cols` are the standard's hasRows and hasCols; the model's definitions take them one by one, and one value of
+// both would be taken apart in each clause.
+
 // Whether a partition can be coded by a table of `n` symbols, where the block's lower half has rows and its right
 // half columns in the tile as told.
 fn is_allowed(rows: bool, cols: bool, n: usize, p: PartitionType) -> bool

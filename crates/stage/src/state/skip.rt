@@ -11,6 +11,8 @@ use av1::{BlockSize, Cell, Refusal, TileBlockOffset};
 use journal::{Counts, Log};
 use record::Sink;
 
+// In this call and the others `behind`, `rooms`, `still` and `memory` relate the two ends of a call, so that no type can
+// hold them.
 impl Stage {
     /// Codes whether a block is skipped, and sets the flag in its cells inside the tile. Answers how many entries
     /// were written: one.
