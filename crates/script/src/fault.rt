@@ -76,11 +76,10 @@ impl ScriptError {
     pub fn at(heap: Global, line: usize, fault: Fault, word: &str) -> ScriptError
         ensures { Faulty line fault word.now result }
     {
-        String::from_str(heap, word).map_or(ScriptError::Memory, |word| ScriptError::Line {
-            line,
-            fault,
-            word,
-        })
+        String::from_str(heap, word).map_or(
+            ScriptError::Memory,
+            |word| ScriptError::Line { line, fault, word },
+        )
     }
 }
 
