@@ -1,9 +1,8 @@
 -- A partition of the stage is the model's.
 use Rattle.journal.specs.declared.Counts.{Counts}
-use Rattle.std.proofs.Common.{◌≡◌, ℕ, zero, suc, ◌+◌, ◌-◌, ◌*◌, ◌<◌, Bool, true, false, cond, not, ◌&&◌, eqb, leb, List, [], ◌∷◌, ◌++◌, length, Some, None, Ok, Err, Result, sym, refl, ap, ◌∙◌, ap₂, arith}
+use Rattle.std.proofs.Common.{◌≡◌, ℕ, zero, suc, ◌+◌, ◌-◌, ◌*◌, ◌<◌, Bool, true, false, cond, not, eqb, leb, List, [], ◌∷◌, length, Ok, Err, Result, sym, refl, ap, ◌∙◌, ap₂, arith}
 use mathlib.Core.Option.{Option}
 use mir.Val.{bool_byte}
-use Rattle.std.proofs.lemmas.Bool.{lt-ltb}
 use Rattle.av1.specs.declared.refusal.Refusal.{Refusal}
 use Rattle.av1.specs.declared.refusal.Refusal.TheVariants as no
 use Rattle.av1.specs.declared.size.BlockSize.{BlockSize}
@@ -11,22 +10,18 @@ use Rattle.av1.specs.Sizes.{level, splits}
 use Rattle.av1.specs.Tiles.{square_asked}
 use Rattle.av1.specs.Tiles as tile
 use Rattle.cdf.specs.declared.entry.Entry.{Entry}
-use Rattle.cdf.specs.declared.tables.edges.Edge.{Edge}
-use Rattle.cdf.specs.Entries.{edge_symbols, edge_entry_if, edge_values}
-use Rattle.cdf.specs.Layout.{in_layout}
-use Rattle.cdf.specs.Words.{Words, Table, table, entry_at}
+use Rattle.cdf.specs.Words.{Words, Table, table}
 use Rattle.model.specs.declared.Question.TheVariants as question
 use Rattle.model.specs.Calls.{decision_step, symbol_step, symbol_steps}
-use Rattle.model.specs.Coders.{edge, entry_of}
+use Rattle.model.specs.Coders.{edge}
 use Rattle.model.specs.Decisions.{State, stage, add_if, window_at, has_columns, has_rows, large_of, partition_allowed, partition_path, partition_table, partition_tree, small_of, table_at}
 use Rattle.model.specs.Runs.{World, Lent, ask, refusal, or_else, unless}
 use Rattle.model.specs.Tree.{written}
 use Rattle.stage.specs.declared.state.Journal.{Journal}
 use Rattle.stage.specs.Partitions.{context_at, entries_at, small_at, large_at}
 use Rattle.stage.specs.Questions.{need, record_asked}
-use Rattle.stage.specs.View.{lane, marks_of, world_at, refused_by}
+use Rattle.stage.specs.View.{world_at, refused_by}
 use Rattle.stage.proofs.Calls.{refused_step, accepted_step, mapless_refusal}
-use Rattle.stage.proofs.Symbols.{log_none}
 
 -- the tables of squares of 8 pixels, and of more
 pub split_table : (level ctx : ℕ) → level ≡ 0 → table (6 + 4 * ctx) 4 ≡ partition_table level ctx
@@ -36,24 +31,6 @@ split_table (suc j) ctx e = absurd (omega arith)
 pub larger_table : (level ctx : ℕ) → 0 < level → table (86 + 10 * (4 * (level - 1) + ctx)) 10 ≡ partition_table level ctx
 larger_table zero ctx h = absurd (omega arith)
 larger_table (suc j) ctx h = let e : suc j - 1 ≡ j = omega arith in ap (λ i. table (86 + 10 * (4 * i + ctx)) 10) e
-
--- the entry at an edge, which joins the record and leaves all else
-pub edge_entry : (w : Words) (t : Table) (k : Edge) (s : ℕ) (e : Entry) → in_layout t ≡ true → s < 2 → Some e ≡ edge_entry_if w t k s → e ≡ entry_of w (edge t (edge_symbols k)) s
-edge_entry w t k s e h l same = inside (same ∙ ap₂ (λ a b. cond (a && b) (Some (entry_at 2 (edge_values w t (edge_symbols k)) s)) None) h (lt-ltb s 2 l))
-  where
-    inside : {x y : Entry} → Some x ≡ Some y → x ≡ y
-    inside p = cc
-
-pub edge_world : (s : State) (j : Journal) (l : Lent stage) (es es' : List Entry) (t : Table) (k : Edge) (v : ℕ) → es' ≡ es ++ entry_of s.words (edge t (edge_symbols k)) v ∷ []
-    → world_at s j l es' ≡ symbol_step (edge t (edge_symbols k)) v (world_at s j l es)
-edge_world s j l es es' t k v e =
-    λ i. record {
-      core = record { state = s; entries = e i };
-      small = log_none j (lane l.small j.used.small) [] refl i;
-      large = log_none j (lane l.large j.used.large) [] refl i;
-      spots = lane l.spots j.used.spots;
-      marks = marks_of j;
-    }
 
 as_number : (b : Bool) → bool_byte b ≡ cond b 1 0
 as_number true = refl

@@ -1,6 +1,6 @@
 -- A segment decision of the stage is the model's.
 use Rattle.stage.specs.Lanes.{OnlySpots}
-use Rattle.std.proofs.Common.{◌≡◌, ℕ, suc, ◌+◌, ◌*◌, ◌<◌, ◌≤◌, min, Bool, true, false, cond, not, ◌||◌, ltb, leb, List, [], map, length, get_or, take, Some, None, Option, is_some, is_none, Ok, Err, Result, sym, refl, ap, ◌∙◌, ap₂, arith, le→leb, lt→ltb, leb→le}
+use Rattle.std.proofs.Common.{◌≡◌, ℕ, suc, ◌+◌, ◌*◌, ◌<◌, ◌≤◌, min, Bool, true, false, cond, not, ◌||◌, leb, List, [], map, length, get_or, take, Some, None, Option, is_some, is_none, Ok, Err, Result, sym, refl, ap, ◌∙◌, ap₂, arith, le→leb, leb→le}
 use mathlib.Core.Option.{none, some}
 use mir.Val.{bool_byte}
 use Rattle.av1.specs.declared.refusal.Refusal.{Refusal}
@@ -12,13 +12,12 @@ use Rattle.av1.specs.declared.tile.Tile.{Tile}
 use Rattle.av1.specs.Segments.{natural, near_segments, segment_context, segment_prediction, interleaved, deinterleaved}
 use Rattle.av1.specs.Tiles.{no_cell, block_at, block_asked}
 use Rattle.av1.specs.Tiles as tile
-use Rattle.av1.proofs.Segments.{segment_back}
 use Rattle.cdf.specs.declared.entry.Entry.{Entry}
 use Rattle.cdf.specs.Words.{Words, table}
 use Rattle.cdf.proofs.Booleans.{true→T, T→true, not-T→false}
 use Rattle.journal.specs.declared.Spot.TheVariants as spot
 use Rattle.model.specs.declared.Question.TheVariants as question
-use Rattle.model.specs.Calls.{segment_step, symbol_step, symbol_steps}
+use Rattle.model.specs.Calls.{segment_step, symbol_steps}
 use Rattle.model.specs.Coders.{whole, after}
 use Rattle.model.specs.Decisions.{State, stage, prediction, segment_number, segment_read, segment_tree, segment_path, segment_decided, segment_spot, block_cells, cells_of, small_of, large_of, with_words, tree, path, settled}
 use Rattle.model.specs.Facts.{with_cells}
@@ -42,17 +41,6 @@ pub number_here : (s : State) (x y : ℕ) → near_segments s.columns s.rows s.c
 unfolding segment_number
 number_here s x y = refl
 
--- the symbol of an active segment
-pub segment_symbol : (id near last s : ℕ) → id ≤ last → near ≤ last → Some s ≡ cond (ltb id (last + 1)) (Some (interleaved id near (last + 1))) None
-    → (s ≡ interleaved id near (last + 1)) × (s < last + 1)
-segment_symbol id near last s h k same =
-    let e : s ≡ interleaved id near (last + 1) = inside (same ∙ ap (λ b. cond b (Some (interleaved id near (last + 1))) None) (T→true (ltb id (last + 1)) (lt→ltb id (last + 1) (omega arith)))) in
-    let b : interleaved id near (last + 1) < last + 1 = (segment_back id near (last + 1) (omega arith) (omega arith)).1 in
-    (e, omega (arith, e, b))
-  where
-    inside : {a b : ℕ} → Some a ≡ Some b → a ≡ b
-    inside p = cc
-
 -- behind its symbol a segment has no more
 no_more : (P : Syntax ℕ → Type 0) → ((d : ℕ) → P (done d)) → P (never no.SymbolAboveLast) → (last near v : ℕ) → P (segment_read last near v)
 no_more P f g last near v = go (leb v last)
@@ -63,13 +51,6 @@ no_more P f g last near v = go (leb v last)
     go : (b : Bool) → P (cond b (done (deinterleaved v near (last + 1))) (never no.SymbolAboveLast))
     go true = f d
     go false = g
-
-pub segment_coded : (skip : Bool) (number last near id s : ℕ) (w : World stage) → skip ≡ false → s ≡ interleaved id near (last + 1)
-    → symbol_step (whole (table (30 + 8 * number) 8)) s w ≡ symbol_steps (segment_tree skip number last near) (segment_path skip last near id) w
-segment_coded true number last near id s w h e = absurd (true→T false (sym h))
-segment_coded false number last near id s w h e =
-    ap (λ v. symbol_step (whole (table (30 + 8 * number) 8)) v w) e
-    ∙ sym (no_more (λ t. symbol_steps t [] (symbol_step (whole (table (30 + 8 * number) 8)) (interleaved id near (last + 1)) w) ≡ symbol_step (whole (table (30 + 8 * number) 8)) (interleaved id near (last + 1)) w) (λ d. refl) refl last near (interleaved id near (last + 1)))
 
 -- a segment that is given is one entry and one window of 16 words
 pub carries : (o : Option ℕ) → bool_byte (is_some o) ≡ bool_byte (not (is_none o))

@@ -1,22 +1,22 @@
 -- A symbol in the stage: its window is logged, its entry joins the record, and its table adapts.
-use Rattle.std.proofs.Common.{◌≡◌, ℕ, ◌+◌, ◌<◌, ◌≤◌, Bool, true, false, cond, ◌&&◌, ltb, leb, List, [], ◌∷◌, ◌++◌, length, reverse, replicate, Some, None, sym, refl, ap, ◌∙◌, ap₂, arith, le→leb, lt→ltb, leb→le}
+use Rattle.std.proofs.Common.{◌≡◌, ℕ, ◌+◌, ◌<◌, ◌≤◌, Bool, true, false, cond, ◌&&◌, ltb, leb, List, [], ◌∷◌, ◌++◌, length, reverse, replicate, sym, refl, ap, ◌∙◌, ap₂, arith, le→leb, lt→ltb, leb→le}
 use Rattle.std.proofs.lemmas.List.{length-reverse}
 use Rattle.arrayvec.specs.ArrayVec.{ArrayVec}
 use Rattle.cdf.specs.declared.entry.Entry.{Entry}
-use Rattle.cdf.specs.Entries.{is_entry, entry_if}
+use Rattle.cdf.specs.Entries.{is_entry}
 use Rattle.cdf.specs.Layout.{in_layout, words_in_all}
 use Rattle.cdf.specs.Words.{Words, Table, table, updated}
 use Rattle.cdf.proofs.Booleans.{true→T, T→true, not-T→false}
 use Rattle.cdf.proofs.Regions.{PlaceOf, table_place, inside_small, inside_large}
 use Rattle.journal.specs.declared.Mark.{Mark}
-use Rattle.model.specs.Calls.{log_if, small_log, large_log, symbol_step}
-use Rattle.model.specs.Coders.{whole, entry_of}
-use Rattle.model.specs.Decisions.{State, stage, window_at, add_if, with_words}
-use Rattle.model.specs.Runs.{Lane, Lent, logged}
+use Rattle.model.specs.Calls.{log_if, small_log}
+use Rattle.model.specs.Coders.{whole}
+use Rattle.model.specs.Decisions.{window_at, add_if}
+use Rattle.model.specs.Runs.{Lane, logged}
 use Rattle.record.specs.Sinks.{put_list}
 use Rattle.stage.specs.declared.state.Journal.{Journal}
 use Rattle.stage.specs.Lanes.{OnlySpots}
-use Rattle.stage.specs.View.{lane, marks_of, open_trials, world_at}
+use Rattle.stage.specs.View.{marks_of, open_trials}
 
 -- no mark is open
 pub none_open : (j : Journal) → open_trials j ≡ 0 → marks_of j ≡ []
@@ -73,28 +73,5 @@ log_none {R} j l rs e = none (marks_of j) ∙ sym (ap (λ z. log_if (marks_of j)
 pub symbol_words : (w v : Words) (t : Table) (s : ℕ) → in_layout t ≡ true → s < t.count → v ≡ cond (in_layout t && ltb s t.count) (updated w t s) w → v ≡ updated w t s
 symbol_words w v t s h l e = e ∙ ap₂ (λ a b. cond (a && b) (updated w t s) w) h (T→true (ltb s t.count) (lt→ltb s t.count l))
 
-pub symbol_entry : (w : Words) (t : Table) (s : ℕ) (e : Entry) → in_layout t ≡ true → s < t.count → Some e ≡ entry_if w t s → e ≡ entry_of w (whole t) s
-symbol_entry w t s e h l same = some_inside (same ∙ ap₂ (λ a b. cond (a && b) (Some (entry_of w (whole t) s)) None) h (T→true (ltb s t.count) (lt→ltb s t.count l)))
-  where
-    some_inside : {A : Type 0} {x y : A} → Some x ≡ Some y → x ≡ y
-    some_inside k = cc
-
 pub put_lawful : (e : Entry) (room : ℕ) (l m : List Entry) → is_entry e ≡ true → 0 < room → m ≡ put_list e room l → m ≡ l ++ e ∷ []
 put_lawful e room l m h some same = same ∙ ap₂ (λ a b. cond a (cond b (l ++ e ∷ []) l) l) h (T→true (ltb 0 room) (lt→ltb 0 room some))
-
--- the world after a symbol, from what became of its parts
-pub symbol_world : (s : State) (j j' : Journal) (l l' : Lent stage) (es es' : List Entry) (words : Words) (t : Table) (v : ℕ)
-    → words ≡ updated s.words t v
-    → es' ≡ es ++ entry_of s.words (whole t) v ∷ []
-    → lane l'.small j'.used.small ≡ log_if (marks_of j) (lane l.small j.used.small) (small_log (whole t) s.words)
-    → lane l'.large j'.used.large ≡ log_if (marks_of j) (lane l.large j.used.large) (large_log (whole t) s.words)
-    → l'.spots ≡ l.spots → j'.used.spots ≡ j.used.spots → j'.marks ≡ j.marks
-    → world_at (with_words s words) j' l' es' ≡ symbol_step (whole t) v (world_at s j l es)
-symbol_world s j j' l l' es es' words t v w e small large spots used marks =
-    λ i. record {
-      core = record { state = with_words s (w i); entries = e i };
-      small = small i;
-      large = large i;
-      spots = lane (spots i) (used i);
-      marks = reverse (marks i).items;
-    }

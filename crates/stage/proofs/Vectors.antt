@@ -59,11 +59,6 @@ pub bits_room : (c : ℕ) (m : Moment) → (c ≡ 0 → ⊥) → RoomFor (intege
 bits_room zero m e h = absurd (e refl)
 bits_room (suc c) m e h = h
 
--- in class 0 the integer part is below 2
-pub low_offset : (c o : ℕ) → o < class_width c → c ≡ 0 → o / 8 < 2
-low_offset zero o h e = omega arith
-low_offset (suc c) o h e = absurd (omega arith)
-
 -- an offset, part by part
 module _ (b : ℕ) (p : MvSubpelPrecision) (sign c o : ℕ) (inside : o < class_width c) (fine : Fits p o) where
   abbrev last_tree : ℕ → ℕ → Syntax ℤ

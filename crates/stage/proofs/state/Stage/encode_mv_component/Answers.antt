@@ -12,51 +12,6 @@ invariant_of-symbol g c = record { there = sign_in_layout c.args.tables.base c.a
 pub invariant_of-symbol-2 : goal.invariant_of-symbol-2
 invariant_of-symbol-2 g c = record { there = classes_in_layout c.args.tables.base c.args.tables.one }
 
-pub symbol-requires : goal.symbol-requires
-symbol-requires g c =
-    let k = g.S.Sink in
-    let class : ℕ = c.get_mv_class-class.result.0 in
-    let offset : ℕ = c.get_mv_class-class.result.1 in
-    let split : SplitAs c.args.comp c.in-Some.sign c.in-Some.mag = search rules in
-    let some : c.in-Some.mag ≡ 0 → ⊥ = search rules in
-    let is : Parts c.args.precision c.args.comp c.in-Some.sign class offset =
-    parts c.args.precision c.args.comp c.in-Some.sign c.in-Some.mag class offset c.requires.fine split some
-    c.get_mv_class-class.ensures.class c.get_mv_class-class.ensures.offset in
-    let m : Moment = moment c.args.self.now c.args.log.now (k.rooms c.args.sink.now) (k.list c.args.sink.now) in
-    let room : RoomFor (1 + offset_count c.args.precision class) 1 m =
-    component_room c.args.precision c.args.comp c.in-Some.sign class offset m is c.requires.room in
-    record {
-      symbol = c.in-Some.ensures.within.0;
-      room = omega (arith, room.entries);
-      small = λ some few. omega (arith, room.small some);
-      large = λ some many. absurd (omega arith);
-    }
-
-pub symbol-requires-2 : goal.symbol-requires-2
-symbol-requires-2 g c =
-    let k = g.S.Sink in
-    let class : ℕ = c.get_mv_class-class.result.0 in
-    let offset : ℕ = c.get_mv_class-class.result.1 in
-    let split : SplitAs c.args.comp c.in-Some.sign c.in-Some.mag = search rules in
-    let some : c.in-Some.mag ≡ 0 → ⊥ = search rules in
-    let is : Parts c.args.precision c.args.comp c.in-Some.sign class offset =
-    parts c.args.precision c.args.comp c.in-Some.sign c.in-Some.mag class offset c.requires.fine split some
-    c.get_mv_class-class.ensures.class c.get_mv_class-class.ensures.offset in
-    let m : Moment = moment c.args.self.now c.args.log.now (k.rooms c.args.sink.now) (k.list c.args.sink.now) in
-    let n : Moment = moment c.symbol.new.self c.symbol.new.log (k.rooms c.symbol.new.sink) (k.list c.symbol.new.sink) in
-    let e = c.symbol.ensures in
-    let coded : Coded (one c.args.tables.base 2) (c.in-Some.sign ∷ []) 1 0 m n =
-    coded_small c.args.tables.base 2 c.in-Some.sign m n (omega arith) e.step e.rooms e.left e.few e.memory e.trials in
-    let room : RoomFor (offset_count c.args.precision class) 1 n =
-    room_left (one c.args.tables.base 2) (c.in-Some.sign ∷ []) 1 0 (offset_count c.args.precision class) 1 (1 + offset_count c.args.precision class) 1 m n coded (omega arith) (omega arith)
-    (component_room c.args.precision c.args.comp c.in-Some.sign class offset m is c.requires.room) in
-    record {
-      symbol = is.most;
-      room = omega (arith, room.entries);
-      small = λ some few. absurd (omega arith);
-      large = λ some many. omega (arith, room.large some);
-    }
-
 pub code_offset-requires : goal.code_offset-requires
 code_offset-requires g c =
     let k = g.S.Sink in

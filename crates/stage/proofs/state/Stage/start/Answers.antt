@@ -1,13 +1,7 @@
-use Rattle.std.proofs.Common.{◌≡◌, ◌*◌, refl, ap, ◌∙◌, ap₂}
-use Rattle.std.proofs.lemmas.Result.{err_from_is_err_and}
+use Rattle.std.proofs.Common.{◌≡◌, ◌*◌, ap, ◌∙◌, ap₂}
 use Rattle.stage.specs.View.{cleared}
 use Rattle.stage.proofs.Starts.{started}
 use Rattle.stage.proofs.state.Stage.start.Goals as goal
-
-pub returns-in_err-tile : goal.returns-in_err-tile
-returns-in_err-tile c =
-    let p = err_from_is_err_and c.from_residual.result c.from_residual.ensures.1 in
-    rw (p.1, p.2) (record { asked = c.in_err-tile.ensures.asked; fresh = tt; map = refl })
 
 pub returns : goal.returns
 returns c =

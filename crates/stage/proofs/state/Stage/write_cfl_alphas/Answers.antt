@@ -1,12 +1,11 @@
-use Rattle.std.proofs.Common.{◌≡◌, ◌+◌, true, false, length, get_or, None, refl, ap, ◌∙◌, ap₂, arith, rules}
+use Rattle.std.proofs.Common.{◌≡◌, ◌+◌, true, false, length, get_or, None, refl, ap, ◌∙◌, ap₂, rules}
 use Rattle.std.proofs.lemmas.Result.{err_from_is_err_and}
 use Rattle.av1.specs.Alphas.{alphas_allowed, joint_sign, coded_alpha}
 use Rattle.av1.specs.declared.refusal.Refusal.TheVariants as no
 use Rattle.av1.specs.Vectors.{nonzero}
 use Rattle.model.proofs.TreeTables.{signs_in_layout}
-use Rattle.stage.specs.Alphas.{scale_count}
 use Rattle.stage.specs.View.{lanes, state_of, world}
-use Rattle.stage.proofs.Alphas.{counted, refused_alphas, refused_record, accepted}
+use Rattle.stage.proofs.Alphas.{refused_alphas, refused_record, accepted}
 use Rattle.stage.proofs.state.Stage.write_cfl_alphas.Goals as goal
 
 pub returns-in_err-cfl-clause-step : goal.returns-in_err-cfl-clause-step
@@ -39,32 +38,6 @@ returns-in_err-ask_record g c =
 
 pub invariant_of-symbol : goal.invariant_of-symbol
 invariant_of-symbol g c = record { there = signs_in_layout }
-
-pub symbol-requires : goal.symbol-requires
-symbol-requires g c =
-    let fit = c.in_ok-ask_record.ensures.lanes in
-    record {
-      symbol = c.joint_sign.ensures.most;
-      room = omega (arith, c.in_ok-ask_record.ensures.room, c.room.ensures);
-      small = λ some few. absurd (omega arith);
-      large = λ some many. omega (arith, fit.large some);
-    }
-
-pub code_scale-requires-2 : goal.code_scale-requires-2
-code_scale-requires-2 g c =
-    let cfl = c.in_ok-cfl.cfl in
-    let fit = c.in_ok-ask_record.ensures.lanes in
-    let signs = c.symbol.ensures in
-    let first = c.code_scale.ensures in
-    let one : scale_count (get_or c.scales.result 0 None) ≡ nonzero cfl.u = ap (λ xs. scale_count (get_or xs 0 None)) c.scales.ensures.value ∙ counted cfl.u cfl.v in
-    let two : scale_count (get_or c.scales.result 1 None) ≡ nonzero cfl.v = ap (λ xs. scale_count (get_or xs 1 None)) c.scales.ensures.value ∙ counted cfl.v cfl.u in
-    let entries = c.count_scales-entries.ensures.value in
-    record {
-      within = search rules;
-      room = omega (arith, c.in_ok-ask_record.ensures.room, c.room.ensures, signs.left, first.left, one, two, entries);
-      large = λ some.
-          omega (arith, fit.large (omega (arith, first.trials, signs.trials)), (signs.many (omega arith)).0, first.many, signs.memory.large_long, first.memory.large_long, one, two, entries);
-    }
 
 pub returns : goal.returns
 returns g c =

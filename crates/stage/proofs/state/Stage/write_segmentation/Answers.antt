@@ -10,7 +10,7 @@ use Rattle.model.specs.Decisions.{block_cells, prediction, segment_number, segme
 use Rattle.stage.specs.declared.state.cells.Change.TheVariants as change
 use Rattle.stage.specs.Questions.{area, need, record_asked}
 use Rattle.stage.specs.View.{lanes, state_of, world}
-use Rattle.stage.proofs.Cells.{part_long, part_taken, part_dropped, still_quiet}
+use Rattle.stage.proofs.Cells.{part_taken, part_dropped, still_quiet}
 use Rattle.stage.proofs.Calls.{asked_block}
 use Rattle.stage.proofs.Segments.{carries, recounted, prediction_here, number_here, refused_block, refused_number, refused_record, accepted, map_segment}
 use Rattle.stage.proofs.state.Stage.write_segmentation.Goals as goal
@@ -66,22 +66,6 @@ returns-in_err-ask_record g c =
       still = λ h. (refl, refl, refl);
       memory = search rules;
     })
-
-pub set_block-requires : goal.set_block-requires
-set_block-requires g c =
-    let s = c.args.self.now in
-    let inside = c.in_ok-block.ensures.inside in
-    let fit = c.in_ok-ask_record.ensures.lanes in
-    let coded = c.code_segment-set.ensures in
-    let units : c.units.result ≡ s.tile.cols * s.tile.rows = c.units.ensures.value in
-    let part : length (mid_of 0 (c.units.result - 0) c.args.map.now) ≡ c.units.result =
-    part_long c.args.map.now c.units.result (c.units.result - 0) (omega arith) (omega (arith, c.in_ok-block.ensures.mapped, units)) in
-    let columns : c.cols.result ≡ s.tile.cols = c.cols.ensures in
-    record {
-      inside = λ i h. omega (arith, inside.row i h, part, units, ap (λ n. i * n) columns);
-      few = omega (arith, part, c.units.ensures.most);
-      room = λ some. omega (arith, fit.spots (omega (arith, coded.trials)), coded.spots, coded.memory.spots_long);
-    }
 
 pub invariant_of-self : goal.invariant_of-self
 invariant_of-self g c =

@@ -9,7 +9,7 @@ use Rattle.model.proofs.TreeTables.{skip_in_layout}
 use Rattle.model.specs.Decisions.{block_cells}
 use Rattle.stage.specs.declared.state.cells.Change.TheVariants as change
 use Rattle.stage.specs.View.{lanes, state_of, world}
-use Rattle.stage.proofs.Cells.{part_long, part_taken, part_dropped, still_quiet}
+use Rattle.stage.proofs.Cells.{part_taken, part_dropped, still_quiet}
 use Rattle.stage.proofs.Calls.{asked_block}
 use Rattle.stage.proofs.Skips.{refused_block, refused_record, accepted, flag_set}
 use Rattle.stage.proofs.state.Stage.write_skip.Goals as goal
@@ -58,21 +58,6 @@ symbol-requires g c =
       room = omega (arith, c.in_ok-ask_record.ensures.room, c.room.ensures);
       small = λ some few. omega (arith, fit.small some);
       large = λ some many. omega arith;
-    }
-
-pub set_block-requires : goal.set_block-requires
-set_block-requires g c =
-    let s = c.args.self.now in
-    let inside = c.in_ok-block.ensures.inside in
-    let fit = c.in_ok-ask_record.ensures.lanes in
-    let units : c.units.result ≡ s.tile.cols * s.tile.rows = c.units.ensures.value in
-    let part : length (mid_of 0 (c.units.result - 0) c.args.map.now) ≡ c.units.result =
-    part_long c.args.map.now c.units.result (c.units.result - 0) (omega arith) (omega (arith, c.in_ok-block.ensures.mapped, units)) in
-    let columns : c.cols.result ≡ s.tile.cols = c.cols.ensures in
-    record {
-      inside = λ i h. omega (arith, inside.row i h, part, units, ap (λ n. i * n) columns);
-      few = omega (arith, part, c.units.ensures.most);
-      room = λ some. omega (arith, fit.spots (omega (arith, c.symbol.ensures.trials)), c.symbol.ensures.spots, c.symbol.ensures.memory.spots_long);
     }
 
 pub invariant_of-self : goal.invariant_of-self
