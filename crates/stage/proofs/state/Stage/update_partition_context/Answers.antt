@@ -1,12 +1,9 @@
-use Rattle.std.proofs.Common.{◌≡◌, ℕ, ◌+◌, ◌/◌, ◌%◌, true, false, length, refl, ap, ◌∙◌, ap₂, arith, rules}
+use Rattle.std.proofs.Common.{◌≡◌, ℕ, ◌+◌, ◌/◌, true, false, length, refl, ap, ap₂, arith, rules}
 use Rattle.std.proofs.lemmas.Bool.{both_ways}
 use Rattle.std.proofs.lemmas.Result.{err_from_is_err_and}
 use Rattle.av1.specs.Sizes.{width, height, fits_in}
-use Rattle.cdf.specs.Lists.{from}
-use Rattle.stage.specs.declared.state.bytes.Side.TheVariants as side
 use Rattle.stage.specs.View.{lanes, state_of}
-use Rattle.stage.proofs.Contexts.{spans_inside, still_unused, update_unfit, update_unplaced, update_unlogged, updated_world}
-use Rattle.stage.proofs.Symbols.{same_trials}
+use Rattle.stage.proofs.Contexts.{spans_inside, update_unfit, update_unplaced, update_unlogged, updated_world}
 use Rattle.stage.proofs.state.Stage.update_partition_context.Goals as goal
 
 pub returns-then-not-fits_in : goal.returns-then-not-fits_in
@@ -45,48 +42,6 @@ returns-in_err-ask_record c =
       still = λ h. refl;
       memory = search rules;
     })
-
-pub set_bytes-requires : goal.set_bytes-requires
-set_bytes-requires c =
-    let s = c.args.self.now in
-    let z = c.args.bsize in
-    let placed = c.in_ok-ask_square.ensures.placed in
-    let inside = spans_inside s.tile.cols s.tile.rows c.args.bo.x c.args.bo.y z (search rules) placed.square placed.inside in
-    let fit = c.in_ok-ask_record.ensures.lanes in
-    record {
-      inside = omega (arith, s.over, inside.0, c.width_mi-width.ensures.value);
-      all = s.over;
-      room = λ some. omega (arith, fit.spots some);
-    }
-
-pub set_bytes-requires-2 : goal.set_bytes-requires-2
-set_bytes-requires-2 c =
-    let s = c.args.self.now in
-    let z = c.args.bsize in
-    let placed = c.in_ok-ask_square.ensures.placed in
-    let inside = spans_inside s.tile.cols s.tile.rows c.args.bo.x c.args.bo.y z (search rules) placed.square placed.inside in
-    let fit = c.in_ok-ask_record.ensures.lanes in
-    record {
-      inside = omega (arith, s.beside, inside.1, c.height_mi-height.ensures.value);
-      all = s.beside;
-      room = λ some. omega (arith, fit.spots (omega (arith, same_trials _ _ c.set_bytes.ensures.kept)), c.set_bytes.ensures.used, c.set_bytes.auto.spots);
-    }
-
-pub invariant_of-self : goal.invariant_of-self
-invariant_of-self c =
-    let s = c.args.self.now in
-    let one = c.set_bytes.ensures in
-    let two = c.set_bytes-2.ensures in
-    record {
-      ends = s.ends;
-      over = c.set_bytes.auto.bytes ∙ s.over;
-      beside = c.set_bytes-2.auto.bytes ∙ s.beside;
-      quiet =
-          still_unused side.Left c.context_bytes-above.result.1 (from ((c.args.bo.y % 16) / 2) (c.height_mi-height.result / 2)) c.set_bytes.new.self c.set_bytes-2.new.self
-          s.contexts.left c.set_bytes-2.new.bytes c.set_bytes.new.spots c.set_bytes-2.new.spots two.kept two.bytes
-          (still_unused side.Above c.context_bytes-above.result.0 (from (c.args.bo.x / 2) (c.width_mi-width.result / 2)) s.journal c.set_bytes.new.self
-          s.contexts.above c.set_bytes.new.bytes c.args.log.now.spots.now c.set_bytes.new.spots one.kept one.bytes s.quiet);
-    }
 
 pub returns : goal.returns
 returns c =

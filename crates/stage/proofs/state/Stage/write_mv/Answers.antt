@@ -93,33 +93,6 @@ returns-in_err-ask_record g c =
 pub invariant_of-symbol : goal.invariant_of-symbol
 invariant_of-symbol g c = record { there = joints_in_layout }
 
-pub symbol-requires : goal.symbol-requires
-symbol-requires g c =
-    let k = g.S.Sink in
-    let s = c.args.self.now in
-    let p = c.args.precision in
-    let row : ℤ = c.args.row in
-    let col : ℤ = c.args.col in
-    let high : ℕ = c.in_ok-high.high in
-    let wide : ℕ = c.in_ok-wide.wide in
-    let first : SplitAs row c.in_ok-high.field-0-0 high = search rules in
-    let next : SplitAs col c.in_ok-wide.field-0-0 wide = search rules in
-    let fine : high % c.mv_step-step.result ≡ 0 = search rules in
-    let fine' : wide % c.mv_step-step.result ≡ 0 = search rules in
-    let is : Taken p row col high wide c.component_symbols.result c.component_symbols-2.result =
-    taken p row col c.in_ok-high.field-0-0 high c.in_ok-wide.field-0-0 wide c.mv_step-step.result c.component_symbols.result c.component_symbols-2.result
-    first next c.mv_step-step.ensures.value fine fine' c.component_symbols.ensures.value c.component_symbols-2.ensures.value in
-    let m : Moment = moment c.args.self.now c.args.log.now (k.rooms c.args.sink.now) (k.list c.args.sink.now) in
-    let room : RoomFor (vector_small p row col) (vector_large row col) m =
-    room_asked p row col high wide c.component_symbols.result c.component_symbols-2.result c.room.result m is c.room.ensures
-    c.in_ok-ask_record.ensures.room c.in_ok-ask_record.ensures.lanes in
-    record {
-      symbol = search rules;
-      room = omega (arith, room.entries);
-      small = λ some few. omega (arith, room.small some);
-      large = λ some many. absurd (omega arith);
-    }
-
 pub encode_mv_component-requires : goal.encode_mv_component-requires
 encode_mv_component-requires g c =
     let k = g.S.Sink in

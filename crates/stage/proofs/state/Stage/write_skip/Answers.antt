@@ -50,16 +50,6 @@ returns-in_err-ask_record g c =
 pub invariant_of-symbol : goal.invariant_of-symbol
 invariant_of-symbol g c = record { there = skip_in_layout c.skip_context-ctx.result (omega (arith, c.skip_context-ctx.ensures.most)) }
 
-pub symbol-requires : goal.symbol-requires
-symbol-requires g c =
-    let fit = c.in_ok-ask_record.ensures.lanes in
-    record {
-      symbol = search rules;
-      room = omega (arith, c.in_ok-ask_record.ensures.room, c.room.ensures);
-      small = λ some few. omega (arith, fit.small some);
-      large = λ some many. omega arith;
-    }
-
 pub invariant_of-self : goal.invariant_of-self
 invariant_of-self g c =
     let s = c.symbol.new.self in
