@@ -1,7 +1,7 @@
 -- The partition contexts, set byte by byte, and what that is in the model.
 use Rattle.journal.specs.declared.Mark.{Mark}
 use Rattle.stage.specs.Lanes.{OnlySpots}
-use Rattle.stage.proofs.Symbols.{same_marks, same_trials, none_open}
+use Rattle.stage.proofs.Symbols.{same_marks, none_open}
 use Rattle.stage.specs.View.{open_trials}
 use Rattle.std.proofs.lemmas.List.{length-reverse}
 use Rattle.std.proofs.Common.{◌≡◌, ℕ, zero, suc, ◌+◌, ◌/◌, ◌%◌, ◌<◌, ◌≤◌, Bool, true, false, cond, ◌&&◌, T, eqb, ltb, List, [], ◌∷◌, ◌++◌, map, length, get_or, set, replicate, Ok, Err, sym, refl, ap, ◌∙◌, ap₂, arith, eqb→eq, ltb→lt, lt→ltb}
@@ -146,20 +146,6 @@ bytes_world k s j j' l l' es bytes m e a b kept =
 steps_append : (ps qs : List Spot) (w : World stage) → spot_steps (ps ++ qs) w ≡ spot_steps qs (spot_steps ps w)
 steps_append [] qs w = refl
 steps_append (p ∷ ps) qs w = steps_append ps qs (spot_step p w)
-
--- no trial is open: no lane is in use
-pub still_unused : (k : Side) (b : ℕ) (is : List ℕ) (j j' : Journal) (bytes bytes' : List ℕ) (spots spots' : List Spot)
-    → OnlySpots j' j
-    → logged_bytes bytes' spots' j'.used.spots ≡ set_bytes (marks_of j) k b is (logged_bytes bytes spots j.used.spots)
-    → (open_trials j ≡ 0 → (j.used.small ≡ 0) × (j.used.large ≡ 0) × (j.used.spots ≡ 0))
-    → open_trials j' ≡ 0 → (j'.used.small ≡ 0) × (j'.used.large ≡ 0) × (j'.used.spots ≡ 0)
-still_unused k b is j j' bytes bytes' spots spots' kept changes quiet closed =
-    let before : open_trials j ≡ 0 = sym (same_trials j' j kept) ∙ closed in
-    let unused : (j.used.small ≡ 0) × (j.used.large ≡ 0) × (j.used.spots ≡ 0) = quiet before in (
-      kept.small ∙ unused.0,
-      kept.large ∙ unused.1,
-      ap (λ (m : LoggedBytes). m.spots.used) (changes ∙ ap (λ ms. set_bytes ms k b is (logged_bytes bytes spots j.used.spots)) (none_open j before) ∙ quiet_bytes k b is (logged_bytes bytes spots j.used.spots)) ∙ unused.2,
-    )
 
 -- the bytes of a square lie in the contexts
 pub spans_inside : (columns rows x y : ℕ) (z : BlockSize) → columns ≤ 1024 → splits 64 z ≡ true → tile.in_tile columns rows x y z ≡ true → (x / 2 + width z / 8 ≤ 512) × ((y % 16) / 2 + height z / 8 ≤ 8)
