@@ -1,14 +1,18 @@
 -- What an entry is.
-use Rattle.std.specs.Prelude.{ℕ, Bool, cond, ◌&&◌, List, [], ◌∷◌, length, Some, None, Option, nat_le, nat_lt}
+use Rattle.std.specs.Prelude.{ℕ, Bool, cond, ◌&&◌, List, [], ◌∷◌, length, Some, None, Option, ◌==◌, nat_le, nat_lt}
 use Rattle.cdf.specs.declared.entry.Entry.{Entry}
 use Rattle.cdf.specs.declared.tables.edges.Edge.{Edge}
 use Rattle.cdf.specs.declared.tables.edges.Edge.TheVariants as edge
 use Rattle.cdf.specs.Layout.{in_layout}
-use Rattle.cdf.specs.Words.{Words, Table, words_of, entry_at, widths}
+use Rattle.cdf.specs.Words.{Words, Table, words_of, fl_at, fh_at, entry_at, widths}
 
 -- s < N, N in 2..16, fh ≤ fl ≤ 32768
 abbrev pub is_entry : Entry → Bool
 is_entry e = nat_lt e.s e.n && (nat_le 2 e.n && (nat_le e.n 16 && (nat_le e.fh e.fl && nat_le e.fl 32768)))
+
+-- an entry is that of a symbol of a table
+abbrev pub entry_fits : List ℕ → Entry → Bool
+entry_fits vs e = nat_lt e.s (length vs) && (e.n == length vs && (e.fl == fl_at vs e.s && e.fh == fh_at (length vs) vs e.s))
 
 -- the entry of a symbol of a table, where the table has the symbol
 abbrev pub entry_in : List ℕ → ℕ → Option Entry

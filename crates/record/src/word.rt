@@ -26,6 +26,13 @@ impl WordRecord {
         let entries = Vec::with_capacity(heap, places)?;
         Ok(WordRecord { entries, places })
     }
+
+    /// The entries, the oldest first.
+    pub fn entries(&self) -> &[Entry]
+        ensures { result.now ≡ self.now.entries.items }
+    {
+        self.entries.as_slice()
+    }
 }
 
 impl Sink for WordRecord {

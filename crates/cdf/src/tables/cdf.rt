@@ -3,7 +3,7 @@ ghost use Rattle.cdf.specs.Entries.{is_entry, edge_symbols, entry_in};
 ghost use Rattle.cdf.specs.Layout.{in_layout, descends};
 ghost use Rattle.cdf.specs.Words.{table, words_of, width_of, widths};
 
-use crate::entry::Entry;
+use crate::entry::{Entry, around};
 use crate::layout::has_table;
 use crate::tables::Tables;
 use crate::tables::edges::Edge;
@@ -27,8 +27,7 @@ impl Cdf<'_> {
         if s >= n {
             return None;
         }
-        let fl = if s == 0 { 32768 } else { self.words[s - 1] };
-        let fh = if s + 1 == n { 0 } else { self.words[s] };
+        let (fl, fh) = around(self.words, s);
         Some(Entry {
             s: s as u8,
             n: n as u8,
