@@ -47,16 +47,23 @@ pub fn code(heap: Global, script: &Script) -> anyhow::Result<String> {
         }
     };
     let mut sink = WordRecord::new(heap, script.places)?;
-    let mut small: [Window<4>; 0] = [];
-    let mut large: [Window<16>; 0] = [];
-    let mut spots: [Spot; 0] = [];
+    let mut small = vec![in heap; Window {
+        first: 0,
+        words: [0; 4]
+    }; script.log.small]?;
+    let mut large = vec![in heap; Window {
+        first: 0,
+        words: [0; 16]
+    }; script.log.large]?;
+    let mut spots = vec![in heap; Spot::Left { at: 0, was: 0 }; script.log.spots]?;
     let mut log = Log {
         small: &mut small,
         large: &mut large,
         spots: &mut spots,
     };
     for line in &script.lines {
-        let answer = make_call(&mut stage, &mut sink, &mut map, &mut log, line.call);
+        let call = line.written.call(stage.trials());
+        let answer = make_call(&mut stage, &mut sink, &mut map, &mut log, call);
         writeln!(
             &mut out,
             "{}",

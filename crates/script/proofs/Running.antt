@@ -18,8 +18,8 @@ use Rattle.script.specs.declared.fault.ScriptError.TheVariants as error
 use Rattle.script.specs.declared.head.Head.{Head}
 use Rattle.script.specs.declared.parse.Line.{Line}
 use Rattle.script.specs.declared.parse.Script.{Script}
-use Rattle.av1.specs.declared.call.Call.{Call}
 use Rattle.script.specs.declared.statement.Statement.{Statement}
+use Rattle.script.specs.declared.written.Written.{Written}
 use Rattle.script.specs.Statements.{and_then}
 use Rattle.script.specs.Scripts.{settled, head_after, spoken, Rejects, Refuses, ReadsLine, Progress, at_first, numbered, placed, stated, line_more, read_lines, Lines, Fails, Finishes, Parses}
 
@@ -46,7 +46,7 @@ next_line s t i x e = record { some = e.0.0.0; first = e.0.0.2; index = e.1; cou
 more_read : (seen : List (List ℕ)) (line : List ℕ) (p : Progress) → read_lines seen ≡ Ok p → read_lines (seen ++ line ∷ []) ≡ stated p (spoken line)
 more_read seen line p e = fold_push line_more (Ok at_first) seen line ∙ ap (λ r. line_more r line) e
 
-pub one_more : (text rest line more : List ℕ) (n i m : ℕ) (h g : Head) (cs ds : List Line) (call : Option Call) → Sofar text rest n h cs → Next rest line more n i m → ReadsLine h (i + 1) line (Ok call) g → ds ≡ cs ++ numbered (i + 1) call → Sofar text more m g ds
+pub one_more : (text rest line more : List ℕ) (n i m : ℕ) (h g : Head) (cs ds : List Line) (call : Option Written) → Sofar text rest n h cs → Next rest line more n i m → ReadsLine h (i + 1) line (Ok call) g → ds ≡ cs ++ numbered (i + 1) call → Sofar text more m g ds
 one_more text rest line more n i m h g cs ds call s x r put =
     let p : Progress = record { number = n; head = h; calls = cs } in
     let put_next : ds ≡ cs ++ numbered (n + 1) call = put ∙ ap (λ k. cs ++ numbered (k + 1) call) x.index in
@@ -58,7 +58,7 @@ one_more text rest line more n i m h g cs ds call s x r put =
       ran = more_read s.seen line p s.ran ∙ ap (stated p) r.1 ∙ ap (placed p r.0) r.2 ∙ sym made;
     }
 
-not_placed : (p : Progress) (st : Statement) (r : Result (Option Call) Fault) (k : ℕ) (f : Fault) → Rejects (p.number + 1) r k f → placed p st r ≡ Err (k, f)
+not_placed : (p : Progress) (st : Statement) (r : Result (Option Written) Fault) (k : ℕ) (f : Fault) → Rejects (p.number + 1) r k f → placed p st r ≡ Err (k, f)
 not_placed p st (Ok call) k f h = absurd h
 not_placed p st (Err g) k f h = sym (λ i. Err (h.0 i, h.1 i))
 
@@ -80,7 +80,7 @@ finished text rest n h cs (Ok s) o e f =
       progress = record { number = n; head = h; calls = cs };
       whole = subst (Lines text o.seen) (nil_from_length rest e) o.cut;
       read = o.ran;
-      made = record { tile = f.tile; places = f.places; calls = f.calls };
+      made = record { tile = f.tile; places = f.places; log = f.log; calls = f.calls };
     }
 finished text rest n h cs (Err error.Memory) o e f = tt
 finished text rest n h cs (Err (error.Line k g w)) o e f =

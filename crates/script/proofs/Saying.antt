@@ -7,7 +7,7 @@ use Rattle.std.proofs.lemmas.Iterator.Adapters.{option_map_id}
 use Rattle.std.proofs.lemmas.Slice.Eq.{bytes_eq-Decides}
 use Rattle.script.specs.Names.{among}
 use Rattle.script.specs.declared.fault.Fault.{Fault}
-use Rattle.script.specs.Numbers.{read_number, some_id, read_id}
+use Rattle.script.specs.Numbers.{read_number, some_number, read_id}
 
 pub differ : (xs ys : List ℕ) → (xs ≡ ys → ⊥) → bytes_eq xs ys ≡ false
 differ xs ys h = false_from_ne_true (bytes_eq xs ys) (λ e. h ((bytes_eq-Decides xs ys).0 e))
@@ -29,7 +29,7 @@ module _ {A : Type 0} (name : A → List ℕ) (w : List ℕ) where
   pub names : (all : List A) (r : Option A) → option_map (λ a. a) r ≡ among name all w → ((a : A) → among name all (name a) ≡ Some a) → MatchOption r ((a : A) → w ≢ name a) (λ a. w ≡ name a)
   names all r e found = let same = sym (option_map_id r) ∙ e in searched all r same found (subst (λ o. IfSome o (λ a. w ≡ name a)) (sym same) (named all))
 
-some_read : (r : Result ℕ Fault) (q : Result (Option ℕ) Fault) → MatchResult r (λ n. q ≡ Ok (Some n)) (λ f. q ≡ Err f) → q ≡ some_id r
+some_read : (r : Result ℕ Fault) (q : Result (Option ℕ) Fault) → MatchResult r (λ n. q ≡ Ok (Some n)) (λ f. q ≡ Err f) → q ≡ some_number r
 some_read (Ok n) q is = is
 some_read (Err f) q is = is
 

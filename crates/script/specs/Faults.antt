@@ -21,7 +21,8 @@ fault_text no.UnknownSink = codes "unknown sink"
 fault_text no.NoTile = codes "no tile line before"
 fault_text no.SecondTile = codes "second tile line:"
 fault_text no.SecondSink = codes "second sink line:"
-fault_text no.LateSink = codes "after the first call:"
+fault_text no.SecondLog = codes "second log line:"
+fault_text no.Late = codes "after the first call:"
 
 abbrev pub error_text : ScriptError → List ℕ
 error_text Memory = codes "out of memory"

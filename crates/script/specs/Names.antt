@@ -9,6 +9,8 @@ use Rattle.av1.specs.declared.call.Call.TheVariants.{Partition, Skip, Segment, A
 use Rattle.script.specs.declared.fault.Fault.{Fault}
 use Rattle.script.specs.declared.statement.Statement.{Statement}
 use Rattle.script.specs.declared.statement.Statement.TheVariants as says
+use Rattle.script.specs.declared.written.Written.{Written}
+use Rattle.script.specs.declared.written.Written.TheVariants as write
 use Rattle.av1.specs.declared.mv.MvSubpelPrecision.{MvSubpelPrecision}
 use Rattle.av1.specs.declared.mv.MvSubpelPrecision.TheVariants.{MV_SUBPEL_NONE, MV_SUBPEL_LOW_PRECISION, MV_SUBPEL_HIGH_PRECISION}
 use Rattle.av1.specs.declared.partition.PartitionType.{PartitionType}
@@ -136,8 +138,15 @@ call_name Open = codes "open"
 call_name (TakeBack d) = codes "back"
 call_name (Keep d) = codes "keep"
 
+-- a call as a line writes it
+abbrev pub written_name : Written → List ℕ
+written_name (write.Call call) = call_name call
+written_name write.TakeBackInnermost = codes "back"
+written_name write.KeepInnermost = codes "keep"
+
 abbrev pub statement_name : Statement → List ℕ
 statement_name says.Blank = []
 statement_name (says.Tile t) = codes "tile"
 statement_name (says.Sink n) = codes "sink"
-statement_name (says.Call call) = call_name call
+statement_name (says.Log n) = codes "log"
+statement_name (says.Call call) = written_name call

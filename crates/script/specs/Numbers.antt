@@ -31,10 +31,11 @@ read_integer bs =
     (cond (nat_le (digits_value 10 (drop 1 bs)) (2 ^ 31)) (Ok (neg_ℤ (pos (digits_value 10 (drop 1 bs))))) (Err NumberTooLarge))
     (Err NotANumber))
 
-abbrev pub some_id : Result ℕ Fault → Result (Option ℕ) Fault
-some_id (Ok n) = Ok (Some n)
-some_id (Err f) = Err f
+-- a number that may be left out, and is there
+abbrev pub some_number : Result ℕ Fault → Result (Option ℕ) Fault
+some_number (Ok n) = Ok (Some n)
+some_number (Err f) = Err f
 
 -- the id of a segment, which a skipped block does not bring
 abbrev pub read_id : List ℕ → Result (Option ℕ) Fault
-read_id bs = cond (bytes_eq bs (codes "skipped")) (Ok None) (some_id (read_number bs))
+read_id bs = cond (bytes_eq bs (codes "skipped")) (Ok None) (some_number (read_number bs))

@@ -10,30 +10,34 @@ use Rattle.script.specs.declared.fault.ScriptError.TheVariants as error
 use Rattle.script.specs.declared.head.Head.{Head}
 use Rattle.script.specs.declared.parse.Line.{Line}
 use Rattle.script.specs.declared.parse.Script.{Script}
-use Rattle.av1.specs.declared.call.Call.{Call}
+use Rattle.journal.specs.declared.Counts.{Counts}
 use Rattle.script.specs.declared.statement.Statement.{Statement}
 use Rattle.script.specs.declared.statement.Statement.TheVariants as says
+use Rattle.script.specs.declared.written.Written.{Written}
 use Rattle.script.specs.Splits.{words_of}
 use Rattle.script.specs.Statements.{and_then, statement_of}
 
 -- nothing is set yet
 abbrev pub start : Head
-start = record { tile = None; places = None; called = false }
+start = record { tile = None; places = None; log = None; called = false }
 
 -- whether a statement may stand here, and the call that it makes
-abbrev pub settled : Head → Statement → Result (Option Call) Fault
+abbrev pub settled : Head → Statement → Result (Option Written) Fault
 settled h says.Blank = Ok None
 settled h (says.Tile t) = cond (is_some h.tile) (Err no.SecondTile) (Ok None)
 settled h (says.Sink n) =
-    cond (is_some h.tile) (cond h.called (Err no.LateSink) (cond (is_some h.places) (Err no.SecondSink) (Ok None))) (Err no.NoTile)
+    cond (is_some h.tile) (cond h.called (Err no.Late) (cond (is_some h.places) (Err no.SecondSink) (Ok None))) (Err no.NoTile)
+settled h (says.Log n) =
+    cond (is_some h.tile) (cond h.called (Err no.Late) (cond (is_some h.log) (Err no.SecondLog) (Ok None))) (Err no.NoTile)
 settled h (says.Call call) = cond (is_some h.tile) (Ok (Some call)) (Err no.NoTile)
 
 -- what is set after a statement that may stand here
 abbrev pub head_after : Head → Statement → Head
 head_after h says.Blank = h
-head_after h (says.Tile t) = record { tile = Some t; places = h.places; called = h.called }
-head_after h (says.Sink n) = record { tile = h.tile; places = Some n; called = h.called }
-head_after h (says.Call call) = record { tile = h.tile; places = h.places; called = true }
+head_after h (says.Tile t) = record { tile = Some t; places = h.places; log = h.log; called = h.called }
+head_after h (says.Sink n) = record { tile = h.tile; places = Some n; log = h.log; called = h.called }
+head_after h (says.Log n) = record { tile = h.tile; places = h.places; log = Some n; called = h.called }
+head_after h (says.Call call) = record { tile = h.tile; places = h.places; log = h.log; called = true }
 
 -- what the line says
 abbrev pub spoken : List ℕ → Result Statement Fault
@@ -45,16 +49,16 @@ Told n f error.Memory = Unit {0}
 Told n f (error.Line l g w) = (l ≡ n) × (g ≡ f)
 
 -- what line n comes to is the fault f, of line k
-abbrev pub Rejects : ℕ → Result (Option Call) Fault → ℕ → Fault → Type 0
+abbrev pub Rejects : ℕ → Result (Option Written) Fault → ℕ → Fault → Type 0
 Rejects n (Ok call) k f = ⊥
 Rejects n (Err g) k f = (k ≡ n) × (f ≡ g)
 
-abbrev pub Refuses : ℕ → Result (Option Call) Fault → ScriptError → Type 0
+abbrev pub Refuses : ℕ → Result (Option Written) Fault → ScriptError → Type 0
 Refuses n r error.Memory = Unit {0}
 Refuses n r (error.Line k f w) = Rejects n r k f
 
 -- what reading a line comes to: the call that it makes and what is set then, or its fault
-abbrev pub ReadsLine : Head → ℕ → List ℕ → Result (Option Call) ScriptError → Head → Type 0
+abbrev pub ReadsLine : Head → ℕ → List ℕ → Result (Option Written) ScriptError → Head → Type 0
 ReadsLine h n line r g =
     results.MatchResult r
     (λ call. (st : Statement) × (spoken line ≡ Ok st) × (settled h st ≡ Ok call) × (g ≡ head_after h st))
@@ -69,12 +73,12 @@ pub record Progress : Type 0 where
 abbrev pub at_first : Progress
 at_first = record { number = 0; head = start; calls = [] }
 
-abbrev pub numbered : ℕ → Option Call → List Line
+abbrev pub numbered : ℕ → Option Written → List Line
 numbered n None = []
-numbered n (Some call) = record { number = n; call = call } ∷ []
+numbered n (Some call) = record { number = n; written = call } ∷ []
 
 -- a statement on the next line, with what it comes to
-abbrev pub placed : Progress → Statement → Result (Option Call) Fault → Result Progress (ℕ × Fault)
+abbrev pub placed : Progress → Statement → Result (Option Written) Fault → Result Progress (ℕ × Fault)
 placed p st (Ok call) = Ok (record { number = p.number + 1; head = head_after p.head st; calls = p.calls ++ numbered (p.number + 1) call })
 placed p st (Err f) = Err (p.number + 1, f)
 
@@ -95,10 +99,15 @@ abbrev pub Lines : List ℕ → List (List ℕ) → List ℕ → Type 0
 Lines text [] rest = text ≡ rest
 Lines text (l ∷ ls) rest = (more : List ℕ) × (0 < length text) × lines.IsFirstLine text l more × Lines more ls rest
 
+-- how many records the lanes have room for where no line says it
+abbrev pub usual_log : Counts
+usual_log = record { small = 65536; large = 4096; spots = 1048576 }
+
 -- the script that the lines make
 pub record Scripted (p : Progress) (s : Script) : Type 0 where
   pub tile : p.head.tile ≡ Some (record { columns = s.columns; rows = s.rows; last = s.last })
   pub places : s.places ≡ unwrap_or p.head.places 1048576
+  pub log : s.log ≡ unwrap_or p.head.log usual_log
   pub calls : vec_items s.lines ≡ p.calls
 
 -- the script that all lines of the text make

@@ -8,12 +8,14 @@ use Rattle.script.specs.declared.fault.Fault.{Fault}
 use Rattle.script.specs.declared.fault.Fault.TheVariants as no
 use Rattle.av1.specs.Sizes.{all_sizes}
 use Rattle.av1.specs.declared.call.Call.{Call}
-use Rattle.av1.specs.declared.call.Call.TheVariants.{Partition, Skip, Segment, Alphas, Vector, ContextUpdate, RowStart}
+use Rattle.av1.specs.declared.call.Call.TheVariants.{Partition, Skip, Segment, Alphas, Vector, ContextUpdate, RowStart, Open, TakeBack, Keep}
 use Rattle.av1.specs.declared.tile.TileBlockOffset.{TileBlockOffset}
 use Rattle.script.specs.declared.statement.Statement.{Statement}
 use Rattle.script.specs.declared.statement.Statement.TheVariants as says
+use Rattle.script.specs.declared.written.Written.{Written}
+use Rattle.script.specs.declared.written.Written.TheVariants as write
 use Rattle.script.specs.Names.{size_name, partition_name, precision_name, flag_name, partitions, precisions, flags, read_name}
-use Rattle.script.specs.Numbers.{read_number, read_integer, read_id}
+use Rattle.script.specs.Numbers.{read_number, read_integer, some_number, read_id}
 
 abbrev pub first : List (List ℕ) → Option (List ℕ)
 first [] = None
@@ -79,6 +81,14 @@ sink_from w ws = cond (bytes_eq w (codes "word")) (word_sink_at ws) (cond (bytes
 abbrev pub sink_at : List (List ℕ) → Result Statement Fault
 sink_at ws = wanted (λ w. sink_from w (drop 1 ws)) (first ws)
 
+-- how many records each lane has room for
+abbrev pub log_at : List (List ℕ) → Result Statement Fault
+log_at ws =
+    and_then (number_at ws) (λ a.
+    and_then (number_at (drop 1 ws)) (λ b.
+    and_then (number_at (drop 1 (drop 1 ws))) (λ c.
+    and_then (end_at (drop 1 (drop 1 (drop 1 ws)))) (λ _. Ok (says.Log (record { small = a; large = b; spots = c }))))))
+
 -- a block's column and row
 abbrev pub offset_at : List (List ℕ) → Result TileBlockOffset Fault
 offset_at ws = and_then (number_at ws) (λ x. and_then (number_at (drop 1 ws)) (λ y. Ok (record { x = x; y = y })))
@@ -90,8 +100,11 @@ block_then k ws =
     and_then (size_at (drop 1 (drop 1 ws))) (λ z. k bo z (drop 1 (drop 1 (drop 1 ws)))))
 
 -- a call whose line ends here
+abbrev pub written_at : Written → List (List ℕ) → Result Statement Fault
+written_at call ws = and_then (end_at ws) (λ _. Ok (says.Call call))
+
 abbrev pub call_at : Call → List (List ℕ) → Result Statement Fault
-call_at call ws = and_then (end_at ws) (λ _. Ok (says.Call call))
+call_at call ws = written_at (write.Call call) ws
 
 abbrev pub partition_at : List (List ℕ) → Result Statement Fault
 partition_at ws = block_then (λ bo z vs. and_then (partition_type_at vs) (λ p. call_at (Partition bo z p) (drop 1 vs))) ws
@@ -119,16 +132,41 @@ context_at ws = block_then (λ bo z vs. and_then (size_at vs) (λ b. call_at (Co
 abbrev pub row_at : List (List ℕ) → Result Statement Fault
 row_at ws = call_at RowStart ws
 
--- words of lines that are not read yet
-abbrev pub later : List ℕ → Bool
-later w =
-    bytes_eq w (codes "log") || (bytes_eq w (codes "open") || (bytes_eq w (codes "back") || bytes_eq w (codes "keep")))
+-- a depth, which may be left out
+abbrev pub depth_from : Option (List ℕ) → Result (Option ℕ) Fault
+depth_from None = Ok None
+depth_from (Some w) = some_number (read_number w)
+
+abbrev pub depth_at : List (List ℕ) → Result (Option ℕ) Fault
+depth_at ws = depth_from (first ws)
+
+-- a trial is taken back, or kept: that of the depth, or else the innermost one
+abbrev pub taken_back : Option ℕ → Written
+taken_back None = write.TakeBackInnermost
+taken_back (Some depth) = write.Call (TakeBack depth)
+
+abbrev pub kept : Option ℕ → Written
+kept None = write.KeepInnermost
+kept (Some depth) = write.Call (Keep depth)
+
+abbrev pub take_back_at : List (List ℕ) → Result Statement Fault
+take_back_at ws = and_then (depth_at ws) (λ d. written_at (taken_back d) (drop 1 ws))
+
+abbrev pub keep_at : List (List ℕ) → Result Statement Fault
+keep_at ws = and_then (depth_at ws) (λ d. written_at (kept d) (drop 1 ws))
+
+-- the call that is made where so many trials are open
+abbrev pub call_of : ℕ → Written → Call
+call_of trials (write.Call call) = call
+call_of trials write.TakeBackInnermost = TakeBack trials
+call_of trials write.KeepInnermost = Keep trials
 
 -- a line that begins with the word w and goes on with ws
 abbrev pub said : List ℕ → List (List ℕ) → Result Statement Fault
 said w ws =
     cond (bytes_eq w (codes "tile")) (tile_at ws)
     (cond (bytes_eq w (codes "sink")) (sink_at ws)
+    (cond (bytes_eq w (codes "log")) (log_at ws)
     (cond (bytes_eq w (codes "partition")) (partition_at ws)
     (cond (bytes_eq w (codes "skip")) (skip_at ws)
     (cond (bytes_eq w (codes "segment")) (segment_at ws)
@@ -136,7 +174,10 @@ said w ws =
     (cond (bytes_eq w (codes "vector")) (vector_at ws)
     (cond (bytes_eq w (codes "context")) (context_at ws)
     (cond (bytes_eq w (codes "row")) (row_at ws)
-    (cond (later w) (Err no.NotSupported) (Err no.UnknownWord))))))))))
+    (cond (bytes_eq w (codes "open")) (call_at Open ws)
+    (cond (bytes_eq w (codes "back")) (take_back_at ws)
+    (cond (bytes_eq w (codes "keep")) (keep_at ws)
+    (Err no.UnknownWord)))))))))))))
 
 abbrev pub statement_from : Option (List ℕ) → List (List ℕ) → Result Statement Fault
 statement_from None ws = Ok says.Blank

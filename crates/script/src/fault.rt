@@ -30,8 +30,9 @@ pub enum Fault {
     NoTile,
     SecondTile,
     SecondSink,
-    /// The sink's line comes before the first call.
-    LateSink,
+    SecondLog,
+    /// The lines of the sink and of the lanes come before the first call.
+    Late,
 }
 
 impl fmt::Display for Fault {
@@ -54,7 +55,8 @@ impl fmt::Display for Fault {
             Fault::NoTile => "no tile line before",
             Fault::SecondTile => "second tile line:",
             Fault::SecondSink => "second sink line:",
-            Fault::LateSink => "after the first call:",
+            Fault::SecondLog => "second log line:",
+            Fault::Late => "after the first call:",
         })
     }
 }

@@ -4,7 +4,8 @@ ghost use Rattle.script.specs.Scripts.{start, settled, head_after, ReadsLine};
 use crate::fault::{Fault, ScriptError};
 use crate::statement::{Statement, TileLine};
 use crate::words::Words;
-use av1::Call;
+use crate::written::Written;
+use journal::Counts;
 use std::alloc::Global;
 
 /// What the lines so far have set.
@@ -12,6 +13,7 @@ use std::alloc::Global;
 pub(crate) struct Head {
     pub(crate) tile: Option<TileLine>,
     pub(crate) places: Option<usize>,
+    pub(crate) log: Option<Counts>,
     called: bool,
 }
 
@@ -22,12 +24,13 @@ impl Head {
         Head {
             tile: None,
             places: None,
+            log: None,
             called: false,
         }
     }
 
     /// Takes a statement where it may stand; a call is handed on.
-    fn take(&mut self, statement: Statement) -> Result<Option<Call>, Fault>
+    fn take(&mut self, statement: Statement) -> Result<Option<Written>, Fault>
         ensures value { result ≡ settled self.old statement }
         ensures sets { MatchResult result (λ _. self.new ≡ head_after self.old statement) (λ _. self.new ≡ self.old) }
     {
@@ -38,11 +41,18 @@ impl Head {
                 self.tile = Some(tile);
                 Ok(None)
             }
-            Statement::Sink(_) | Statement::Call(_) if self.tile.is_none() => Err(Fault::NoTile),
-            Statement::Sink(_) if self.called => Err(Fault::LateSink),
+            Statement::Sink(_) | Statement::Log(_) | Statement::Call(_) if self.tile.is_none() => {
+                Err(Fault::NoTile)
+            }
+            Statement::Sink(_) | Statement::Log(_) if self.called => Err(Fault::Late),
             Statement::Sink(_) if self.places.is_some() => Err(Fault::SecondSink),
             Statement::Sink(places) => {
                 self.places = Some(places);
+                Ok(None)
+            }
+            Statement::Log(_) if self.log.is_some() => Err(Fault::SecondLog),
+            Statement::Log(log) => {
+                self.log = Some(log);
                 Ok(None)
             }
             Statement::Call(call) => {
@@ -58,7 +68,7 @@ impl Head {
         heap: Global,
         number: usize,
         line: &str,
-    ) -> Result<Option<Call>, ScriptError>
+    ) -> Result<Option<Written>, ScriptError>
         ensures { ReadsLine self.old number line.now result self.new }
     {
         let mut words = Words::new(line);

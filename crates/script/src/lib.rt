@@ -10,6 +10,7 @@ pub mod report;
 pub mod statement;
 pub mod word;
 mod words;
+pub mod written;
 
 pub use crate::digest::Digest;
 pub use crate::fault::{Fault, ScriptError};
@@ -17,6 +18,7 @@ pub use crate::name::Named;
 pub use crate::parse::{Line, Script};
 pub use crate::report::{Answered, Recorded, StartRefused, State};
 pub use crate::word::Word;
+pub use crate::written::Written;
 
 #[cfg(test)]
 mod tests;

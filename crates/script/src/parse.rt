@@ -4,26 +4,35 @@ ghost use Rattle.script.specs.Scripts.{Finishes, Parses};
 
 use crate::fault::{Fault, ScriptError};
 use crate::head::Head;
-use av1::Call;
+use crate::written::Written;
+use journal::Counts;
 use std::alloc::Global;
 
 /// How many places a sink has where the script does not say.
 const PLACES: usize = 1_048_576;
 
+/// How many records the lanes have room for where the script does not say.
+const LOG: Counts = Counts {
+    small: 65_536,
+    large: 4_096,
+    spots: 1_048_576,
+};
+
 /// A call, and the number of its line, counted from 1.
 #[derive(Clone, Copy)]
 pub struct Line {
     pub number: usize,
-    pub call: Call,
+    pub written: Written,
 }
 
-/// A script: the tile, the sink's places, and the calls in order.
+/// A script: the tile, the sink's places, the lanes' records, and the calls in order.
 #[derive(Drop)]
 pub struct Script {
     pub columns: usize,
     pub rows: usize,
     pub last: usize,
     pub places: usize,
+    pub log: Counts,
     pub lines: Vec<Line>,
 }
 
@@ -41,6 +50,7 @@ fn finish(heap: Global, head: Head, text: &str, calls: Vec<Line>) -> Result<Scri
         rows: tile.rows,
         last: tile.last,
         places: head.places.unwrap_or(PLACES),
+        log: head.log.unwrap_or(LOG),
         lines: calls,
     })
 }
@@ -53,8 +63,8 @@ pub fn parse(heap: Global, text: &str) -> Result<Script, ScriptError>
     let mut lines = Vec::new(heap);
     for (i, line) in text.lines().enumerate() {
         let number = i + 1;
-        if let Some(call) = head.read_line(heap, number, line)? {
-            lines.push(Line { number, call })?;
+        if let Some(written) = head.read_line(heap, number, line)? {
+            lines.push(Line { number, written })?;
         }
     }
     finish(heap, head, text, lines)

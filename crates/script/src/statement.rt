@@ -1,30 +1,14 @@
 ghost use Rattle.std.specs.Prelude.{◌≡◌, drop, OnOk};
-ghost use Rattle.script.specs.Names.{call_name, statement_name};
+ghost use Rattle.script.specs.Names.{statement_name};
 ghost use Rattle.script.specs.Splits.{unread};
-ghost use Rattle.script.specs.Statements.{tile_at, sink_at, offset_at, call_at, partition_at, skip_at, segment_at, alphas_at, vector_at, context_at, statement_of};
+ghost use Rattle.script.specs.Statements.{tile_at, sink_at, log_at, offset_at, depth_at, written_at, call_at, partition_at, skip_at, segment_at, alphas_at, vector_at, context_at, take_back_at, keep_at, statement_of};
 
 use crate::fault::Fault;
+use crate::word::Word;
 use crate::words::Words;
+use crate::written::Written;
 use av1::{Call, TileBlockOffset};
-
-/// The word that the line of a call begins with.
-// Text and no `Display`: a fault keeps the word as text, and a writer would only be asked for it again.
-pub fn call_word(call: Call) -> &'static str
-    ensures { result.now ≡ call_name call }
-{
-    match call {
-        Call::Partition { .. } => "partition",
-        Call::Skip { .. } => "skip",
-        Call::Segment { .. } => "segment",
-        Call::Alphas { .. } => "alphas",
-        Call::Vector { .. } => "vector",
-        Call::ContextUpdate { .. } => "context",
-        Call::RowStart => "row",
-        Call::Open => "open",
-        Call::TakeBack { .. } => "back",
-        Call::Keep { .. } => "keep",
-    }
-}
+use journal::Counts;
 
 /// The line of the tile.
 #[derive(Clone, Copy)]
@@ -40,7 +24,9 @@ pub(crate) enum Statement {
     Blank,
     Tile(TileLine),
     Sink(usize),
-    Call(Call),
+    /// How many records each lane has room for.
+    Log(Counts),
+    Call(Written),
 }
 
 impl Statement {
@@ -52,7 +38,8 @@ impl Statement {
             Statement::Blank => "",
             Statement::Tile(_) => "tile",
             Statement::Sink(_) => "sink",
-            Statement::Call(call) => call_word(call),
+            Statement::Log(_) => "log",
+            Statement::Call(call) => call.word(),
         }
     }
 }
@@ -68,12 +55,30 @@ impl<'a> Words<'a> {
         Ok(TileBlockOffset { x, y })
     }
 
+    /// [DEPTH]
+    fn depth(&mut self) -> Result<Option<usize>, Fault>
+        ensures value { result ≡ depth_at (unread self.old.rest) }
+        ensures after { OnOk result (unread self.new.rest ≡ drop 1 (unread self.old.rest)) }
+    {
+        match self.next_word() {
+            Some(word) => usize::read(word).map(Some),
+            None => Ok(None),
+        }
+    }
+
     /// A call, where the line ends here.
-    fn call(&mut self, call: Call) -> Result<Statement, Fault>
-        ensures { result ≡ call_at call (unread self.old.rest) }
+    fn written(&mut self, call: Written) -> Result<Statement, Fault>
+        ensures { result ≡ written_at call (unread self.old.rest) }
     {
         self.end()?;
         Ok(Statement::Call(call))
+    }
+
+    /// The same of a call that is whole.
+    fn call(&mut self, call: Call) -> Result<Statement, Fault>
+        ensures { result ≡ call_at call (unread self.old.rest) }
+    {
+        self.written(Written::Call(call))
     }
 
     /// COLUMNS ROWS LAST
@@ -104,6 +109,21 @@ impl<'a> Words<'a> {
             "packed" => Err(Fault::NotSupported),
             _ => Err(Fault::UnknownSink),
         }
+    }
+
+    /// SMALL LARGE SPOTS
+    fn log(&mut self) -> Result<Statement, Fault>
+        ensures { result ≡ log_at (unread self.old.rest) }
+    {
+        let small = self.read()?;
+        let large = self.read()?;
+        let spots = self.read()?;
+        self.end()?;
+        Ok(Statement::Log(Counts {
+            small,
+            large,
+            spots,
+        }))
     }
 
     /// X Y SIZE PARTITION
@@ -173,6 +193,26 @@ impl<'a> Words<'a> {
         self.call(Call::ContextUpdate { bo, bsize, subsize })
     }
 
+    /// [DEPTH]
+    fn take_back(&mut self) -> Result<Statement, Fault>
+        ensures { result ≡ take_back_at (unread self.old.rest) }
+    {
+        match self.depth()? {
+            Some(depth) => self.call(Call::TakeBack { depth }),
+            None => self.written(Written::TakeBackInnermost),
+        }
+    }
+
+    /// [DEPTH]
+    fn keep(&mut self) -> Result<Statement, Fault>
+        ensures { result ≡ keep_at (unread self.old.rest) }
+    {
+        match self.depth()? {
+            Some(depth) => self.call(Call::Keep { depth }),
+            None => self.written(Written::KeepInnermost),
+        }
+    }
+
     /// What the line says.
     pub(crate) fn statement(&mut self) -> Result<Statement, Fault>
         ensures { result ≡ statement_of (unread self.old.rest) }
@@ -183,6 +223,7 @@ impl<'a> Words<'a> {
         match word {
             "tile" => self.tile(),
             "sink" => self.sink(),
+            "log" => self.log(),
             "partition" => self.partition(),
             "skip" => self.skip(),
             "segment" => self.segment(),
@@ -190,7 +231,9 @@ impl<'a> Words<'a> {
             "vector" => self.vector(),
             "context" => self.context(),
             "row" => self.call(Call::RowStart),
-            "log" | "open" | "back" | "keep" => Err(Fault::NotSupported),
+            "open" => self.call(Call::Open),
+            "back" => self.take_back(),
+            "keep" => self.keep(),
             _ => Err(Fault::UnknownWord),
         }
     }

@@ -3,6 +3,7 @@ use crate::name::Named;
 use crate::parse::parse;
 use crate::report::{Answered, Recorded, StartRefused, State};
 use crate::word::Word;
+use crate::written::Written;
 use av1::{Answer, BlockSize, Call, MvSubpelPrecision, PartitionType, Refusal, TileBlockOffset};
 use std::fmt::Display;
 use std::process::Abort;
@@ -37,7 +38,9 @@ fn a_script_is_read(rt: HostRuntime) -> Result<(), Fail> {
         bsize: BlockSize::BLOCK_16X8,
         skip: true,
     };
-    assert_eq!(rt; script.lines[0].call, skip);
+    assert_eq!(rt; script.lines[0].written, Written::Call(skip));
+    assert_eq!(rt; (script.log.small, script.log.large), (65536, 4096));
+    assert_eq!(rt; script.log.spots, 1_048_576);
     Ok(())
 }
 
@@ -76,7 +79,7 @@ fn integers_are_read(rt: HostRuntime) {
 }
 
 /// Lines and their calls. What no stage takes may stand in a script.
-const CALLS: [(&str, Call); 13] = [
+const CALLS: [(&str, Call); 16] = [
     (
         "partition 4 8 32X32 VERT_A",
         Call::Partition {
@@ -160,6 +163,15 @@ const CALLS: [(&str, Call); 13] = [
         },
     ),
     ("\trow ", Call::RowStart),
+    ("open", Call::Open),
+    ("back 2", Call::TakeBack { depth: 2 }),
+    ("keep 0", Call::Keep { depth: 0 }),
+];
+
+/// Lines that name no depth, and the calls that they make where 3 trials are open.
+const INNERMOST: [(&str, Call); 2] = [
+    ("back", Call::TakeBack { depth: 3 }),
+    ("keep # all", Call::Keep { depth: 3 }),
 ];
 
 #[test]
@@ -170,12 +182,34 @@ fn calls_are_read(rt: HostRuntime) -> Result<(), Fail> {
         text.push_str(line)?;
         let script = parse(heap, text.as_str())?;
         assert!(rt; script.lines.len() == 1);
-        assert_eq!(rt; script.lines[0].call, wanted);
+        assert_eq!(rt; script.lines[0].written, Written::Call(wanted));
     }
     Ok(())
 }
 
-const BAD: [(&str, &str); 33] = [
+#[test]
+fn the_innermost_trial_is_meant(rt: HostRuntime) -> Result<(), Fail> {
+    let heap = rt.alloc();
+    for (line, wanted) in INNERMOST {
+        let mut text = String::from_str(heap, "tile 8 8 7\n")?;
+        text.push_str(line)?;
+        let script = parse(heap, text.as_str())?;
+        assert!(rt; script.lines.len() == 1);
+        assert_eq!(rt; script.lines[0].written.call(3), wanted);
+    }
+    Ok(())
+}
+
+#[test]
+fn the_lanes_are_read(rt: HostRuntime) -> Result<(), Fail> {
+    let text = "tile 8 8 7\nlog 1 0 20\nsink word 2\nopen";
+    let script = parse(rt.alloc(), text)?;
+    assert_eq!(rt; (script.log.small, script.log.large), (1, 0));
+    assert_eq!(rt; (script.log.spots, script.places), (20, 2));
+    Ok(())
+}
+
+const BAD: [(&str, &str); 43] = [
     ("", "line 1: no tile line before 'end of script'"),
     ("# none\n\n", "line 3: no tile line before 'end of script'"),
     ("\nskip 0 0 8X8 1", "line 2: no tile line before 'skip'"),
@@ -199,7 +233,23 @@ const BAD: [(&str, &str); 33] = [
         "tile 8 8 0\nalphas 1 1\nsink word 1",
         "line 3: after the first call: 'sink'",
     ),
-    ("tile 8 8 0\nopen", "line 2: not supported yet: 'open'"),
+    ("log 1 1 1", "line 1: no tile line before 'log'"),
+    (
+        "tile 8 8 0\nlog 1 1 1\nlog 1 1 1",
+        "line 3: second log line: 'log'",
+    ),
+    (
+        "tile 8 8 0\nopen\nlog 1 1 1",
+        "line 3: after the first call: 'log'",
+    ),
+    ("tile 8 8 0\nlog 1 1", "line 2: missing word after '1'"),
+    ("tile 8 8 0\nlog 1 -1 1", "line 2: negative number '-1'"),
+    ("tile 8 8 0\nlog 1 1 1 1", "line 2: word too much: '1'"),
+    ("tile 8 8 0\nopen 1", "line 2: word too much: '1'"),
+    ("tile 8 8 0\nback one", "line 2: not a number: 'one'"),
+    ("tile 8 8 0\nkeep -1", "line 2: negative number '-1'"),
+    ("tile 8 8 0\nback 1 1", "line 2: word too much: '1'"),
+    ("keep", "line 1: no tile line before 'keep'"),
     ("tile 8 8 0\nskp 0 0 8X8 1", "line 2: unknown word 'skp'"),
     ("tile 8 8 # 0", "line 1: missing word after '8'"),
     ("tile 8 8 0 0", "line 1: word too much: '0'"),

@@ -7,11 +7,11 @@ use Rattle.script.specs.Scripts.{numbered}
 use Rattle.script.proofs.Running.{next_line, one_more, failed, finished, all_came}
 use Rattle.script.proofs.parse.parse.Goals as goal
 
-pub returns-in_err-call : goal.returns-in_err-call
-returns-in_err-call c =
+pub returns-in_err-written : goal.returns-in_err-written
+returns-in_err-written c =
     let x = next_line c.loop-i.i-iterator c.next.new.self c.in-Some.i c.in-Some.line c.in-Some.ensures.steps in
     let p = err_from_is_err_and c.from_residual.result c.from_residual.ensures.1 in
-    rw (p.1, p.2) (failed c.args.text.now _ c.in-Some.line.now _ _ c.in-Some.i _ c.loop-i.head (vec_items c.loop-i.lines) c.in_err-call.field-0.0 c.loop-i.invariant.sofar x c.in_err-call.ensures)
+    rw (p.1, p.2) (failed c.args.text.now _ c.in-Some.line.now _ _ c.in-Some.i _ c.loop-i.head (vec_items c.loop-i.lines) c.in_err-written.field-0.0 c.loop-i.invariant.sofar x c.in_err-written.ensures)
 
 pub loop-i-preserved-in-Continue-branch-3 : goal.loop-i-preserved-in-Continue-branch-3
 loop-i-preserved-in-Continue-branch-3 c =
@@ -19,7 +19,7 @@ loop-i-preserved-in-Continue-branch-3 c =
     let x = next_line c.loop-i.i-iterator c.next.new.self c.in-Some.i c.in-Some.line c.in-Some.ensures.steps in
     let put = c.in_ok-push.ensures.items ∙ ap (λ o. calls ++ numbered (c.in-Some.i + 1) o) (sym c.in-Some-2.is) in
     record {
-      sofar = one_more c.args.text.now _ c.in-Some.line.now _ _ c.in-Some.i _ c.loop-i.head c.read_line.new.self calls _ c.in_ok-call.field-0 c.loop-i.invariant.sofar x c.in_ok-call.ensures put;
+      sofar = one_more c.args.text.now _ c.in-Some.line.now _ _ c.in-Some.i _ c.loop-i.head c.read_line.new.self calls _ c.in_ok-written.field-0 c.loop-i.invariant.sofar x c.in_ok-written.ensures put;
       counted = omega (arith, x.count, length-append c.loop-i.yielded ((c.in-Some.i, c.in-Some.line) ∷ []));
       can_next = search rules;
       is_finite = search rules;
@@ -31,7 +31,7 @@ loop-i-preserved c =
     let x = next_line c.loop-i.i-iterator c.next.new.self c.in-Some.i c.in-Some.line c.in-Some.ensures.steps in
     let put = sym (append-nil calls) ∙ ap (λ o. calls ++ numbered (c.in-Some.i + 1) o) (sym c.in_default.is) in
     record {
-      sofar = one_more c.args.text.now _ c.in-Some.line.now _ _ c.in-Some.i _ c.loop-i.head c.read_line.new.self calls calls c.in_ok-call.field-0 c.loop-i.invariant.sofar x c.in_ok-call.ensures put;
+      sofar = one_more c.args.text.now _ c.in-Some.line.now _ _ c.in-Some.i _ c.loop-i.head c.read_line.new.self calls calls c.in_ok-written.field-0 c.loop-i.invariant.sofar x c.in_ok-written.ensures put;
       counted = omega (arith, x.count, length-append c.loop-i.yielded ((c.in-Some.i, c.in-Some.line) ∷ []));
       can_next = search rules;
       is_finite = search rules;
