@@ -6,3 +6,6 @@ pub mod write;
 
 pub use crate::call::make_call;
 pub use crate::write::{ReplayError, write_calls};
+
+#[cfg(test)]
+mod tests;
