@@ -2,3 +2,4 @@ pub mod Calls
 pub mod Playing
 pub mod Traces
 pub mod Units
+mod Noting

@@ -1,9 +1,11 @@
 //! Whole lists of calls, made one after the other, and what holds of any such list.
 #![tactic(auto)]
 
+pub mod book;
 pub mod call;
 pub mod write;
 
+pub use crate::book::{Book, Standing};
 pub use crate::call::make_call;
 pub use crate::write::{ReplayError, write_calls};
 

@@ -1,0 +1,76 @@
+ghost use Rattle.std.specs.Prelude.{◌≡◌, OnErr, OnOk};
+ghost use Rattle.model.specs.Decisions.{stage as subject};
+ghost use Rattle.model.specs.Runs.{cut, empty_book, noted, take_back};
+ghost use Rattle.replay.specs.Books.{book, standing_calls};
+ghost use Rattle.replay.specs.Calls.{asking};
+ghost use Rattle.replay.specs.Runs.{told_of};
+
+use av1::{Answer, Call, Refusal};
+use std::alloc::{AllocError, Global};
+
+/// A call that stands, and the segment that it answered: 0 where it is none of a segment.
+#[derive(Clone, Copy, PartialEq, Debug)]
+pub struct Standing {
+    pub call: Call,
+    pub segment: usize,
+}
+
+/// The book of the calls that stand: those that were accepted, and not taken back.
+#[derive(Drop)]
+pub struct Book {
+    standing: Vec<Standing>,
+    // how many calls stood when each open trial was opened, the innermost last
+    numbers: Vec<usize>,
+}
+
+impl Book {
+    /// The book before any call.
+    pub fn new(heap: Global) -> Book
+        ensures { book result ≡ empty_book subject }
+    {
+        Book {
+            standing: Vec::new(heap),
+            numbers: Vec::new(heap),
+        }
+    }
+
+    // The calls since the innermost trial was opened go; the number at which it was opened stays.
+    fn cut(&mut self)
+        ensures { book self.new ≡ cut (book self.old) (take_back 0) }
+    {
+        if let Some(number) = self.numbers.last() {
+            self.standing.truncate(*number);
+        }
+    }
+
+    /// Takes down a call and what it answered.
+    pub fn note(&mut self, call: Call, answer: Result<Answer, Refusal>) -> Result<(), AllocError>
+        ensures noted { OnOk result (book self.new ≡ noted (book self.old) (asking call) (told_of call answer)) }
+        ensures still { OnErr result (book self.new ≡ book self.old) }
+    {
+        match (call, answer) {
+            (Call::Open, Ok(Answer::Opened(_))) => self.numbers.push(self.standing.len())?,
+            (Call::TakeBack { .. }, Ok(Answer::Done)) => self.cut(),
+            (Call::Keep { .. }, Ok(Answer::Done)) => {
+                let _ = self.numbers.pop();
+            }
+            (Call::Open | Call::TakeBack { .. } | Call::Keep { .. }, _) => {}
+            (_, Ok(Answer::Wrote(_))) => self.standing.push(Standing { call, segment: 0 })?,
+            (_, Ok(Answer::Segmented { segment, .. })) => {
+                self.standing.push(Standing { call, segment })?;
+            }
+            (Call::ContextUpdate { .. } | Call::RowStart, Ok(Answer::Done)) => {
+                self.standing.push(Standing { call, segment: 0 })?;
+            }
+            _ => {}
+        }
+        Ok(())
+    }
+
+    /// The calls that stand, in order.
+    pub fn standing(&self) -> &[Standing]
+        ensures { standing_calls result.now ≡ (book self.now).standing }
+    {
+        self.standing.as_slice()
+    }
+}
