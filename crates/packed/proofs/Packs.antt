@@ -6,7 +6,7 @@ use Rattle.std.proofs.lemmas.Bool.{lt-ltb}
 use Rattle.std.proofs.lemmas.List.{length-append, drop_all}
 use Rattle.std.proofs.lemmas.List.Recursion.{is_sum_by}
 use Rattle.cdf.specs.declared.entry.Entry.{Entry}
-use Rattle.record.specs.Packing.{packed_entry, packed}
+use Rattle.packed.specs.Packing.{packed_entry, packed}
 use Rattle.record.specs.Sinks.{no_entry, entry_answer}
 
 -- what a sink answers at a place, if it has an entry there

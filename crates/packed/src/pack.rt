@@ -1,7 +1,7 @@
 ghost use Rattle.std.specs.Prelude.{◌≡◌, ◌≤◌, length};
-ghost use Rattle.record.specs.Packing.{groups, packed_entry, packed};
+ghost use Rattle.packed.specs.Packing.{groups, packed_entry, packed};
 
-use crate::sink::Sink;
+use record::Sink;
 use cdf::Entry;
 
 // How many groups of seven bits a number takes.

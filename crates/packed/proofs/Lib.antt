@@ -1,0 +1,3 @@
+pub mod Checking
+mod Packs
+pub mod Unpacking
