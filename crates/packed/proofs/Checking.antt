@@ -9,7 +9,8 @@ use Rattle.av1.specs.declared.refusal.Refusal.TheVariants as no
 use Rattle.cdf.specs.declared.entry.Entry.{Entry}
 use Rattle.cdf.specs.Entries.{is_entry}
 use Rattle.packed.specs.Packing.{packed_entry, packed, unpacked, NoEntry, Whole, FailsAt}
-use Rattle.packed.proofs.Unpacking.{entry_least, unpacked_append, packed_append, packed_push, packed_least, holds}
+use Rattle.packed.proofs.Unpacking.{unpacked_append, holds}
+use Rattle.packed.specs.Laws.{entry_least, packed_append, packed_push, packed_least}
 
 -- some bytes are gone, and were entries
 pub record Sofar (bs rest : List ℕ) (count : ℕ) : Type 0 where

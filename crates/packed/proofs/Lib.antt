@@ -1,3 +1,4 @@
 pub mod Checking
+pub mod Records
 mod Packs
 pub mod Unpacking

@@ -5,10 +5,11 @@ use Rattle.std.specs.List.{list_all}
 use Rattle.std.specs.Result.{OkIff, result_ok}
 use Rattle.std.proofs.lemmas.Bool.{cases_lt, lt-ltb, le-ltb, ltb-true, leb-true, and_parts, and_from, both_ways}
 use Rattle.std.proofs.lemmas.Bool.Decides.{nat_tests}
-use Rattle.std.proofs.lemmas.List.{append-nil, append_assoc, append_cancel_left, length-append, take-append-drop, take_at, drop_at}
+use Rattle.std.proofs.lemmas.List.{append-nil, append_assoc, append_cancel_left, length-append, take-append-drop, take_at, drop_at, take_more}
 use Rattle.std.proofs.lemmas.List.Folds.{list_all-append}
 use Rattle.cdf.specs.declared.entry.Entry.{Entry}
 use Rattle.cdf.specs.Entries.{is_entry}
+use Rattle.packed.specs.Laws.{Small, small, short, entry_length, entry_least, entry_most, packed_append, packed_push, packed_least}
 use Rattle.packed.specs.Packing.{groups, packed_entry, packed, under, numbers, entries_in, unpacked, NoNumber, NoEntry, Whole, FailsAt}
 
 -- a number that is read back as it was packed
@@ -37,52 +38,6 @@ groups_unique bs a b r q ha hb p o =
     let same : a ≡ b = cc in
     (same, append_cancel_left (groups a) r q (sym p ∙ o ∙ ap (λ n. groups n ++ q) (sym same)))
 
--- a number takes one to three bytes
-pub record Short (n : ℕ) : Type 0 where
-  pub least : 1 ≤ length (groups n)
-  pub most : length (groups n) ≤ 3
-  pub one : n < 128 → length (groups n) ≡ 1
-
-pub short : (n : ℕ) → Short n
-short n = ⊎_elim
-    (λ small. let a = lt-ltb n 128 small in record { least = simp a (omega arith); most = simp a (omega arith); one = λ h. simp a })
-    (λ big. let a = le-ltb n 128 big in
-      ⊎_elim
-      (λ mid. let c = lt-ltb n 16384 mid in record { least = simp (a, c) (omega arith); most = simp (a, c) (omega arith); one = λ h. absurd (omega arith) })
-      (λ far. let c = le-ltb n 16384 far in record { least = simp (a, c) (omega arith); most = simp (a, c) (omega arith); one = λ h. absurd (omega arith) })
-      (cases_lt n 16384))
-    (cases_lt n 128)
-
--- the numbers of an entry are small
-pub record Small (e : Entry) : Type 0 where
-  pub s : e.s < 128
-  pub n : e.n < 128
-  pub fl : e.fl < 65536
-  pub fh : e.fh < 65536
-
-pub small : (e : Entry) → is_entry e ≡ true → Small e
-small e h =
-    let p = and_parts (ltb e.s e.n) _ h in
-    let q = and_parts (leb 2 e.n) _ p.1 in
-    let r = and_parts (leb e.n 16) _ q.1 in
-    let t = and_parts (leb e.fh e.fl) _ r.1 in
-    let s = ltb-true e.s e.n p.0 in
-    let n = leb-true e.n 16 r.0 in
-    let fh = leb-true e.fh e.fl t.0 in
-    let fl = leb-true e.fl 32768 t.1 in
-    record { s = omega arith; n = omega arith; fl = omega arith; fh = omega arith }
-
-pub entry_length : (e : Entry) → length (packed_entry e) ≡ length (groups e.s) + (length (groups e.n) + (length (groups e.fl) + length (groups e.fh)))
-entry_length e = simp length-append
-
-pub entry_least : (e : Entry) → 4 ≤ length (packed_entry e)
-entry_least e = omega (arith, entry_length e, (short e.s).least, (short e.n).least, (short e.fl).least, (short e.fh).least)
-
-pub entry_most : (e : Entry) → is_entry e ≡ true → length (packed_entry e) ≤ 8
-entry_most e h =
-    let k = small e h in
-    omega (arith, entry_length e, (short e.s).one k.s, (short e.n).one k.n, (short e.fl).most, (short e.fh).most)
-
 -- a packed entry by its four numbers
 pub entry_parts : (e : Entry) (r : List ℕ) → packed_entry e ++ r ≡ groups e.s ++ (groups e.n ++ (groups e.fl ++ (groups e.fh ++ r)))
 entry_parts e r = simp append_assoc
@@ -104,18 +59,6 @@ unpacked_append (e ∷ l) r h =
 
 pub unpacked_packed : (l : List Entry) → list_all is_entry l ≡ true → unpacked (packed l) ≡ l
 unpacked_packed l h = ap unpacked (sym (append-nil (packed l))) ∙ unpacked_append l [] h ∙ append-nil l
-
-pub packed_append : (l m : List Entry) → packed (l ++ m) ≡ packed l ++ packed m
-packed_append [] m = refl
-packed_append (e ∷ l) m = ap (λ bs. packed_entry e ++ bs) (packed_append l m) ∙ sym (append_assoc (packed_entry e) (packed l) (packed m))
-
-pub packed_push : (l : List Entry) (e : Entry) → packed (l ++ e ∷ []) ≡ packed l ++ packed_entry e
-packed_push l e = packed_append l (e ∷ []) ∙ ap (λ bs. packed l ++ bs) (append-nil (packed_entry e))
-
--- every entry takes at least four bytes
-pub packed_least : (l : List Entry) → 4 * length l ≤ length (packed l)
-packed_least [] = omega arith
-packed_least (e ∷ l) = omega (arith, entry_least e, packed_least l, length-append (packed_entry e) (packed l))
 
 -- packed entries are whole
 pub record Holds (bs : List ℕ) (l : List Entry) : Type 0 where
@@ -158,3 +101,19 @@ found bs r1 r2 r3 r4 e hs hn hfl hfh ps pn pfl pfh false h = not_an_entry bs r1 
 pub same_byte : {E : Type 0} (r : Result ℕ E) (P : Type 0) (n b : ℕ) → OkIff r P n → Some b ≡ result_ok r → n ≡ b
 same_byte (Ok x) P n b h p = let e = h.1 in cc
 same_byte (Err y) P n b h p = cc
+
+pub packed_split : (k : ℕ) (l : List Entry) → packed (take k l) ++ packed (drop k l) ≡ packed l
+packed_split k l = sym (packed_append (take k l) (drop k l)) ∙ ap packed (take-append-drop k l)
+
+-- where the first k entries end, there the rest begins
+pub drop_packed : (k : ℕ) (l : List Entry) → drop (length (packed (take k l))) (packed l) ≡ packed (drop k l)
+drop_packed k l = ap (drop (length (packed (take k l)))) (sym (packed_split k l)) ∙ drop_at (packed (take k l)) (packed (drop k l)) _ refl
+
+pub take_packed : (k : ℕ) (l : List Entry) → take (length (packed (take k l))) (packed l) ≡ packed (take k l)
+take_packed k l = ap (take (length (packed (take k l)))) (sym (packed_split k l)) ∙ take_at (packed (take k l)) (packed (drop k l)) _ refl
+
+pub packed_more : (l : List Entry) (k : ℕ) (d : Entry) → k < length l → packed (take (k + 1) l) ≡ packed (take k l) ++ packed_entry (get_or l k d)
+packed_more l k d h = ap packed (take_more l k d h) ∙ packed_push (take k l) (get_or l k d)
+
+pub packed_within : (l : List Entry) (k : ℕ) → length (packed (take k l)) ≤ length (packed l)
+packed_within l k = omega (arith, ap length (packed_split k l), length-append (packed (take k l)) (packed (drop k l)))

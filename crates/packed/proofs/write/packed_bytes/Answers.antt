@@ -7,7 +7,7 @@ use Rattle.cdf.specs.declared.entry.Entry.{Entry}
 use Rattle.packed.specs.Packing.{packed_entry}
 use Rattle.record.specs.Sinks.{most_entries}
 use Rattle.packed.proofs.Packs.{all_entries, entry_there, packed_sum}
-use Rattle.packed.proofs.pack.packed_bytes.Goals as goal
+use Rattle.packed.proofs.write.packed_bytes.Goals as goal
 
 pub sum-requires-clause-fits : goal.sum-requires-clause-fits
 sum-requires-clause-fits g c =
