@@ -1,4 +1,4 @@
-ghost use Rattle.std.specs.Prelude.{◌≡◌, ◌-◌, ◌*◌, ◌/◌, ◌≤◌, min, [], length, take, cond, nat_le, Some, None, IfOk, vec_len, vec_capacity};
+ghost use Rattle.std.specs.Prelude.{◌≡◌, ◌-◌, ◌*◌, ◌/◌, ◌≤◌, min, [], length, take, cond, nat_le, Some, None, IfOk, IfSome, vec_len, vec_capacity};
 ghost use Rattle.packed.specs.Packing.{packed, unpacked, ends_from, Whole};
 ghost use Rattle.std.proofs.Common.{arith};
 ghost use Rattle.packed.specs.Laws.{packed_laws};
@@ -49,11 +49,12 @@ impl PackedRecord {
 
     // Where the first `n` entries end, if there are so many.
     fn end(&self, n: usize) -> Option<usize>
-        ensures { result ≡ cond (nat_le n (length (unpacked self.now.bytes.items))) (Some (length (packed (take n (unpacked self.now.bytes.items))))) None }
+        ensures value { result ≡ cond (nat_le n (length (unpacked self.now.bytes.items))) (Some (length (packed (take n (unpacked self.now.bytes.items))))) None }
+        ensures inside { IfSome result (λ at. at ≤ vec_len self.now.bytes) }
     {
         match n.checked_sub(1) {
             None => Some(0),
-            Some(last) => self.ends.get(last).map(|end| *end as usize),
+            Some(last) => Some(*self.ends.get(last)? as usize),
         }
     }
 }
