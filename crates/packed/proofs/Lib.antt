@@ -1,3 +1,4 @@
+pub mod Backwards
 pub mod Checking
 pub mod Records
 mod Packs

@@ -7,9 +7,11 @@ use Rattle.std.proofs.lemmas.List.Folds.{list_all-append, list_all_at}
 use Rattle.std.proofs.lemmas.Option.{cond_some}
 use Rattle.av1.specs.declared.refusal.Refusal.TheVariants as no
 use Rattle.cdf.specs.declared.entry.Entry.{Entry}
-use Rattle.cdf.specs.Entries.{is_entry}
+use Rattle.cdf.specs.Entries.{is_entry, entry_fits}
 use Rattle.record.specs.Sinks.{no_entry, entry_answer, put_list, cut_list}
-use Rattle.packed.specs.Packing.{packed_entry, packed, unpacked, ends_from, NoEntry, Whole}
+use Rattle.record.specs.Sources.{next_answer, next_place}
+use Rattle.record.specs.declared.source.SourceFault.TheVariants as fault
+use Rattle.packed.specs.Packing.{packed_entry, packed, unpacked, ends_from, BeginsAt, NoEntry, Whole}
 use Rattle.packed.proofs.Unpacking.{unpacked_entry, unpacked_packed, packed_more, packed_within, take_packed, drop_packed, holds, Holds}
 use Rattle.packed.specs.Laws.{entry_most, entry_least, packed_push, packed_least, packed_append}
 use Rattle.packed.proofs.Checking.{all_push}
@@ -53,26 +55,21 @@ end_there l ends n last x p e h q =
     let at : x ≡ length (packed (take (suc last) l)) = omega (arith, q, ap (λ m. get_or m last 0) p, ends_at 0 l last h) in
     rw e (simp a (ap Some at))
 
--- a byte of whole bytes at which entry i begins, or the bytes end
-pub record Here (bs : List ℕ) (i at : ℕ) : Type 0 where
-  pub inside : i ≤ length (unpacked bs)
-  pub where_it_is : at ≡ length (packed (take i (unpacked bs)))
-
-pub here_from_end : (bs : List ℕ) (i at : ℕ) → Some at ≡ end_of (unpacked bs) i → Here bs i at
+pub here_from_end : (bs : List ℕ) (i at : ℕ) → Some at ≡ end_of (unpacked bs) i → BeginsAt bs i at
 here_from_end bs i at p =
     let q = cond_some (leb i (length (unpacked bs))) (length (packed (take i (unpacked bs)))) at (sym p) in
-    record { inside = leb-true i (length (unpacked bs)) q.0; where_it_is = sym q.1 }
+    record { inside = leb-true i (length (unpacked bs)) q.0; start = sym q.1 }
 
-pub here_within : (bs : List ℕ) (i at : ℕ) → Whole bs → Here bs i at → at ≤ length bs
-here_within bs i at w h = omega (arith, h.where_it_is, packed_within (unpacked bs) i, ap length w.packs)
+pub here_within : (bs : List ℕ) (i at : ℕ) → Whole bs → BeginsAt bs i at → at ≤ length bs
+here_within bs i at w h = omega (arith, h.start, packed_within (unpacked bs) i, ap length w.packs)
 
-pub here_rest : (bs : List ℕ) (i at : ℕ) → Whole bs → Here bs i at → drop at bs ≡ packed (drop i (unpacked bs))
+pub here_rest : (bs : List ℕ) (i at : ℕ) → Whole bs → BeginsAt bs i at → drop at bs ≡ packed (drop i (unpacked bs))
 here_rest bs i at w h =
-    ap (drop at) (sym w.packs) ∙ ap (λ n. drop n (packed (unpacked bs))) h.where_it_is ∙ drop_packed i (unpacked bs)
+    ap (drop at) (sym w.packs) ∙ ap (λ n. drop n (packed (unpacked bs))) h.start ∙ drop_packed i (unpacked bs)
 
-pub here_front : (bs : List ℕ) (i at : ℕ) → Whole bs → Here bs i at → take at bs ≡ packed (take i (unpacked bs))
+pub here_front : (bs : List ℕ) (i at : ℕ) → Whole bs → BeginsAt bs i at → take at bs ≡ packed (take i (unpacked bs))
 here_front bs i at w h =
-    ap (take at) (sym w.packs) ∙ ap (λ n. take n (packed (unpacked bs))) h.where_it_is ∙ take_packed i (unpacked bs)
+    ap (take at) (sym w.packs) ∙ ap (λ n. take n (packed (unpacked bs))) h.start ∙ take_packed i (unpacked bs)
 
 -- each of them is an entry
 one_of : (l : List Entry) (i : ℕ) → list_all is_entry l ≡ true → i < length l → is_entry (get_or l i no_entry) ≡ true
@@ -85,7 +82,7 @@ all_drop : (l : List Entry) (i : ℕ) → list_all is_entry l ≡ true → list_
 all_drop l i h = (and_parts (list_all is_entry (take i l)) (list_all is_entry (drop i l)) (sym (list_all-append is_entry (take i l) (drop i l)) ∙ ap (list_all is_entry) (take-append-drop i l) ∙ h)).1
 
 -- where no entry is found, the entries end
-pub none_here : (bs : List ℕ) (i at : ℕ) → Whole bs → Here bs i at → NoEntry (drop at bs) → length (unpacked bs) ≤ i
+pub none_here : (bs : List ℕ) (i at : ℕ) → Whole bs → BeginsAt bs i at → NoEntry (drop at bs) → length (unpacked bs) ≤ i
 none_here bs i at w h none =
     let l = unpacked bs in
     ⊎_elim
@@ -97,9 +94,9 @@ none_here bs i at w h none =
 pub record Found (bs : List ℕ) (i at : ℕ) (e : Entry) : Type 0 where
   pub inside : i < length (unpacked bs)
   pub same : get_or (unpacked bs) i no_entry ≡ e
-  pub next : Here bs (i + 1) (at + length (packed_entry e))
+  pub next : BeginsAt bs (i + 1) (at + length (packed_entry e))
 
-pub found_here : (bs rest : List ℕ) (i at : ℕ) (e : Entry) → Whole bs → Here bs i at → is_entry e ≡ true → drop at bs ≡ packed_entry e ++ rest → Found bs i at e
+pub found_here : (bs rest : List ℕ) (i at : ℕ) (e : Entry) → Whole bs → BeginsAt bs i at → is_entry e ≡ true → drop at bs ≡ packed_entry e ++ rest → Found bs i at e
 found_here bs rest i at e w h ok p =
     let l = unpacked bs in
     let split : drop i l ≡ e ∷ unpacked rest = sym (unpacked_packed (drop i l) (all_drop l i w.entries)) ∙ ap unpacked (sym (here_rest bs i at w h) ∙ p) ∙ unpacked_entry e rest ok in
@@ -107,12 +104,12 @@ found_here bs rest i at e w h ok p =
     let same : get_or l i no_entry ≡ e = ap (λ k. get_or l k no_entry) (sym (add-zero i)) ∙ sym (get_or-drop i l 0 no_entry) ∙ ap (λ m. get_or m 0 no_entry) split in
     let more = ap length (packed_more l i no_entry lt) ∙ length-append (packed (take i l)) (packed_entry (get_or l i no_entry)) in
     let size : length (packed_entry (get_or l i no_entry)) ≡ length (packed_entry e) = ap (λ x. length (packed_entry x)) same in
-    record { inside = lt; same = same; next = record { inside = omega arith; where_it_is = omega (arith, h.where_it_is, more, size) } }
+    record { inside = lt; same = same; next = record { inside = omega arith; start = omega (arith, h.start, more, size) } }
 
-pub no_answer : (bs : List ℕ) (i at : ℕ) → Whole bs → Here bs i at → NoEntry (drop at bs) → Err no.NoSuchEntry ≡ entry_answer (unpacked bs) i
+pub no_answer : (bs : List ℕ) (i at : ℕ) → Whole bs → BeginsAt bs i at → NoEntry (drop at bs) → Err no.NoSuchEntry ≡ entry_answer (unpacked bs) i
 no_answer bs i at w h none = let a = le-ltb i (length (unpacked bs)) (none_here bs i at w h none) in simp a
 
-pub an_answer : (bs rest : List ℕ) (i at : ℕ) (e : Entry) → Whole bs → Here bs i at → is_entry e ≡ true → drop at bs ≡ packed_entry e ++ rest → Ok e ≡ entry_answer (unpacked bs) i
+pub an_answer : (bs rest : List ℕ) (i at : ℕ) (e : Entry) → Whole bs → BeginsAt bs i at → is_entry e ≡ true → drop at bs ≡ packed_entry e ++ rest → Ok e ≡ entry_answer (unpacked bs) i
 an_answer bs rest i at e w h ok p =
     let f = found_here bs rest i at e w h ok p in
     let a = lt-ltb i (length (unpacked bs)) f.inside in
@@ -129,11 +126,34 @@ put_ends bs cs ends e w h p q =
     let list = (put_holds bs cs e w h p).list in
     ap (λ x. x ++ length cs ∷ []) q ∙ ap (λ n. ends_from 0 (unpacked bs) ++ n ∷ []) all ∙ sym (ends_push 0 (unpacked bs) e) ∙ ap (ends_from 0) (sym list)
 
-pub cut_holds : (bs cs : List ℕ) (n at : ℕ) → Whole bs → Here bs n at → cs ≡ take at bs → Holds cs (take n (unpacked bs))
+pub cut_holds : (bs cs : List ℕ) (n at : ℕ) → Whole bs → BeginsAt bs n at → cs ≡ take at bs → Holds cs (take n (unpacked bs))
 cut_holds bs cs n at w h p = holds cs (take n (unpacked bs)) (all_take (unpacked bs) n w.entries) (p ∙ here_front bs n at w h)
 
-pub cut_ends : (bs cs ends : List ℕ) (n at : ℕ) → Whole bs → Here bs n at → cs ≡ take at bs → ends ≡ ends_from 0 (unpacked bs) → take n ends ≡ ends_from 0 (unpacked cs)
+pub cut_ends : (bs cs ends : List ℕ) (n at : ℕ) → Whole bs → BeginsAt bs n at → cs ≡ take at bs → ends ≡ ends_from 0 (unpacked bs) → take n ends ≡ ends_from 0 (unpacked cs)
 cut_ends bs cs ends n at w h p q = ap (take n) q ∙ take-ends n 0 (unpacked bs) ∙ ap (ends_from 0) (sym (cut_holds bs cs n at w h p).list)
+
+-- what a source answers where an entry is found, and where none is
+pub next_none : (bs table : List ℕ) (i at : ℕ) → Whole bs → BeginsAt bs i at → NoEntry (drop at bs) → (Err (fault.NoNextEntry i) ≡ next_answer (unpacked bs) i table) × (i ≡ next_place (unpacked bs) i table)
+next_none bs table i at w h none = let a = le-ltb i (length (unpacked bs)) (none_here bs i at w h none) in (simp a, simp a)
+
+pub next_unfit : (bs rest table : List ℕ) (i at : ℕ) (e : Entry) → Whole bs → BeginsAt bs i at → is_entry e ≡ true → drop at bs ≡ packed_entry e ++ rest → entry_fits table e ≡ false → (Err (fault.EntryUnfit i) ≡ next_answer (unpacked bs) i table) × (i ≡ next_place (unpacked bs) i table)
+next_unfit bs rest table i at e w h ok p n =
+    let f = found_here bs rest i at e w h ok p in
+    let a = lt-ltb i (length (unpacked bs)) f.inside in
+    (rw (a, f.same, n), rw (a, f.same, n))
+
+pub next_fits : (bs rest table : List ℕ) (i at : ℕ) (e : Entry) → Whole bs → BeginsAt bs i at → is_entry e ≡ true → drop at bs ≡ packed_entry e ++ rest → entry_fits table e ≡ true → (Ok e.s ≡ next_answer (unpacked bs) i table) × (i + 1 ≡ next_place (unpacked bs) i table)
+next_fits bs rest table i at e w h ok p y =
+    let f = found_here bs rest i at e w h ok p in
+    let a = lt-ltb i (length (unpacked bs)) f.inside in
+    (rw (a, f.same, y), rw (a, f.same, y))
+
+-- where the next entry begins, by what is left behind this one
+pub next_begins : (bs rest : List ℕ) (i at : ℕ) (e : Entry) → Whole bs → BeginsAt bs i at → is_entry e ≡ true → drop at bs ≡ packed_entry e ++ rest → BeginsAt bs (i + 1) (length bs - length rest)
+next_begins bs rest i at e w h ok p =
+    let f = found_here bs rest i at e w h ok p in
+    let size : at + length (packed_entry e) ≡ length bs - length rest = omega (arith, ap length p, length-drop at bs, length-append (packed_entry e) rest, here_within bs i at w h) in
+    rw (← size) f.next
 
 pub put_list_is : (l : List Entry) (e : Entry) (room : ℕ) → is_entry e ≡ true → 0 < room → l ++ e ∷ [] ≡ put_list e room l
 put_list_is l e room h free = let a = lt-ltb 0 room free in simp (h, a)

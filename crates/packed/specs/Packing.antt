@@ -1,6 +1,6 @@
 -- How entries are packed into bytes: s, N, fl and fh, each in groups of seven bits, the lowest group first, the top bit
 -- set on all but the last group, as few groups as go.
-use Rattle.std.specs.Prelude.{◌≡◌, ℕ, ◌+◌, ◌-◌, ◌*◌, ◌/◌, ◌%◌, ◌<◌, ◌≢◌, true, cond, List, [], ◌∷◌, ◌++◌, length, take, drop, nat_lt}
+use Rattle.std.specs.Prelude.{◌≡◌, ℕ, ◌+◌, ◌-◌, ◌*◌, ◌/◌, ◌%◌, ◌<◌, ◌≤◌, ◌≢◌, true, cond, List, [], ◌∷◌, ◌++◌, length, take, drop, nat_lt}
 use Rattle.std.specs.List.{list_all}
 use Rattle.cdf.specs.declared.entry.Entry.{Entry}
 use Rattle.cdf.specs.Entries.{is_entry}
@@ -56,6 +56,11 @@ pub record FailsAt (bs : List ℕ) (at : ℕ) : Type 0 where
   pub inside : at < length bs
   pub before : Whole (take at bs)
   pub none : NoEntry (drop at bs)
+
+-- entry i of whole bytes begins at a byte; where i is the number of entries, the bytes end there
+pub record BeginsAt (bs : List ℕ) (i at : ℕ) : Type 0 where
+  pub inside : i ≤ length (unpacked bs)
+  pub start : at ≡ length (packed (take i (unpacked bs)))
 
 -- where each entry ends, of entries that begin at a byte
 abbrev pub ends_from : ℕ → List Entry → List ℕ

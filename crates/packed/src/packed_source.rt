@@ -3,7 +3,7 @@ ghost use Rattle.std.specs.List.{list_all};
 ghost use Rattle.av1.specs.declared.refusal.Refusal.TheVariants as no;
 ghost use Rattle.cdf.specs.declared.entry.Entry.{Entry};
 ghost use Rattle.cdf.specs.Entries.{is_entry};
-ghost use Rattle.packed.specs.Packing.{packed, unpacked, Whole, FailsAt};
+ghost use Rattle.packed.specs.Packing.{packed, unpacked, BeginsAt, Whole, FailsAt};
 
 use crate::read::{count_entries, split_entry};
 use av1::Refusal;
@@ -17,8 +17,8 @@ pub struct PackedSource<'a> {
     offset: usize,
     place: usize,
     ghost whole: { Whole bytes.now },
-    ghost inside: { place ≤ length (unpacked bytes.now) },
-    ghost here: { offset ≡ length (packed (take place (unpacked bytes.now))) },
+    ghost here: { BeginsAt bytes.now place offset },
+    ghost within: { offset ≤ length bytes.now },
 }
 
 impl<'a> PackedSource<'a> {
@@ -40,16 +40,19 @@ impl<'a> PackedSource<'a> {
 fn start_of_last(bytes: &[u8], n: usize) -> usize
     requires whole { Whole bytes.now }
     requires inside { n ≤ length (unpacked bytes.now) }
-    ensures { result ≡ length (packed (take (length (unpacked bytes.now) - n) (unpacked bytes.now))) }
+    ensures start { BeginsAt bytes.now (length (unpacked bytes.now) - n) result }
+    ensures within { result ≤ length bytes.now }
 {
     let mut numbers = 4 * n;
-    for (i, byte) in bytes.iter().enumerate().rev() {
+    let mut front = bytes;
+    while let Some((byte, rest)) = front.split_last() {
         if *byte < 128 {
             if numbers == 0 {
-                return i + 1;
+                return front.len();
             }
             numbers -= 1;
         }
+        front = rest;
     }
     0
 }
@@ -59,7 +62,7 @@ impl Source for PackedSource<'_> {
 
     ghost place = { λ s. s.place };
 
-    ghost laws = { record { inside = λ s. s.inside } };
+    ghost laws = { record { inside = λ s. s.here.inside } };
 
     fn place(&self) -> usize {
         self.place
