@@ -8,8 +8,8 @@ use Rattle.cdf.specs.declared.entry.Entry.{Entry}
 use Rattle.cdf.specs.Entries.{is_entry}
 use Rattle.packed.specs.Laws.{Small, small, short, entry_least}
 use Rattle.packed.specs.Packing.{groups, packed_entry, packed, unpacked, BeginsAt, Whole}
-use Rattle.packed.proofs.Unpacking.{packed_within}
-use Rattle.packed.proofs.Records.{here_front, here_within, all_take}
+use Rattle.packed.proofs.Unpacking.{packed_within, Holds}
+use Rattle.packed.proofs.Records.{here_front, here_within, all_take, cut_holds}
 
 abbrev pub is_last : ℕ → Bool
 is_last b = ltb b 128
@@ -175,3 +175,19 @@ pub stop_at_the_front : (bs : List ℕ) (n numbers : ℕ) → Backwards bs [] (l
 stop_at_the_front bs n numbers x =
     let none : length (unpacked bs) - n ≡ 0 = omega (arith, x.left) in
     record { inside = omega arith; start = sym (ap (λ k. length (packed (take k (unpacked bs)))) none) }
+
+-- the entries before a byte are the first ones of all
+pub before_here : (bs : List ℕ) (i at : ℕ) → Whole bs → BeginsAt bs i at → Holds (take at bs) (take i (unpacked bs))
+before_here bs i at w h = cut_holds bs (take at bs) i at w h refl
+
+pub counted_before : (bs : List ℕ) (i at : ℕ) → Whole bs → BeginsAt bs i at → length (unpacked (take at bs)) ≡ i
+counted_before bs i at w h = ap length (before_here bs i at w h).list ∙ length-take-le i (unpacked bs) h.inside
+
+pub back_begins : (bs : List ℕ) (i at p to : ℕ) → Whole bs → BeginsAt bs i at → p ≤ i → BeginsAt (take at bs) (length (unpacked (take at bs)) - (i - p)) to → BeginsAt bs p to
+back_begins bs i at p to w h le x =
+    let l = unpacked bs in
+    let index : length (unpacked (take at bs)) - (i - p) ≡ p = omega (arith, counted_before bs i at w h) in
+    record {
+      inside = omega (arith, h.inside);
+      start = x.start ∙ ap (λ k. length (packed (take k (unpacked (take at bs))))) index ∙ ap (λ m. length (packed (take p m))) (before_here bs i at w h).list ∙ ap (λ m. length (packed m)) (take-take p i l le);
+    }

@@ -1,8 +1,8 @@
 -- Bytes that are gone through entry by entry.
-use Rattle.std.proofs.Common.{Bor, MatchOption, Option, Some, None, Result, Ok, Err, ◌≡◌, ◌≢◌, ℕ, zero, suc, ◌+◌, ◌-◌, ◌*◌, ◌<◌, ◌≤◌, Bool, true, false, ◌&&◌, List, [], ◌∷◌, ◌++◌, length, take, drop, is_ok, MatchResult, sym, refl, ap, ◌∙◌, subst, arith}
+use Rattle.std.proofs.Common.{Bor, MatchOption, Option, Some, None, Result, Ok, Err, ◌≡◌, ◌≢◌, ℕ, zero, suc, ◌+◌, ◌-◌, ◌*◌, ◌<◌, ◌≤◌, Bool, true, false, ◌&&◌, List, [], ◌∷◌, ◌++◌, length, take, drop, is_ok, MatchResult, sym, refl, ap, ◌∙◌, subst, ⊎_elim, arith}
 use Rattle.std.specs.List.{list_all}
-use Rattle.std.proofs.lemmas.Bool.{and_parts, and_from}
-use Rattle.std.proofs.lemmas.List.{append-nil, append_assoc, append_cancel_left, length-append, length_push, length-drop, take-append-drop, take_at, drop_at}
+use Rattle.std.proofs.lemmas.Bool.{cases_lt, and_parts, and_from}
+use Rattle.std.proofs.lemmas.List.{append-nil, append_assoc, append_cancel_left, length-append, length_push, length-drop, length-take-le, take-take, drop-append-le, take-append-drop, take_at, drop_at}
 use Rattle.std.proofs.lemmas.List.Folds.{list_all-append}
 use Rattle.av1.specs.declared.refusal.Refusal.{Refusal}
 use Rattle.av1.specs.declared.refusal.Refusal.TheVariants as no
@@ -74,3 +74,26 @@ packed_passes bs at l x h p =
     let same : rest ≡ packed (unpacked rest) = append_cancel_left (packed m) rest (packed (unpacked rest)) (sym split ∙ ap packed list ∙ packed_append m (unpacked rest)) in
     let each = and_parts (list_all is_entry m) (list_all is_entry (unpacked rest)) (sym (list_all-append is_entry m (unpacked rest)) ∙ sym (ap (list_all is_entry) list) ∙ h) in
     no_entries_left rest (unpacked rest) (simp length-drop (omega (arith, x.inside))) each.1 x.none same
+
+pub whole_passes : (bs : List ℕ) (at : ℕ) → Whole bs → FailsAt bs at → ⊥
+whole_passes bs at w x = packed_passes bs at (unpacked bs) x w.entries (sym w.packs)
+
+-- no bytes fail at two places, since those before the later one are whole
+no_later : (bs : List ℕ) (at other : ℕ) → FailsAt bs at → FailsAt bs other → at < other → ⊥
+no_later bs at other x y h =
+    let front = take other bs in
+    let long : length front ≡ other = length-take-le other bs (omega (arith, y.inside)) in
+    let rest : drop at bs ≡ drop at front ++ drop other bs = ap (drop at) (sym (take-append-drop other bs)) ∙ drop-append-le at front (drop other bs) (omega (arith, long)) in
+    let same : take at front ≡ take at bs = take-take at other bs (omega (arith, h)) in
+    let fails_too : FailsAt front at = record {
+      inside = omega (arith, long);
+      before = subst Whole (sym same) x.before;
+      none = λ e r ok p. x.none e (r ++ drop other bs) ok (rest ∙ ap (λ m. m ++ drop other bs) p ∙ append_assoc (packed_entry e) r (drop other bs));
+    } in
+    whole_passes front at y.before fails_too
+
+pub fails_once : (bs : List ℕ) (at other : ℕ) → FailsAt bs at → FailsAt bs other → at ≡ other
+fails_once bs at other x y =
+    ⊎_elim (λ h. absurd (no_later bs at other x y h))
+    (λ h. ⊎_elim (λ k. absurd (no_later bs other at y x k)) (λ k. let e : at ≡ other = omega arith in e) (cases_lt other at))
+    (cases_lt at other)

@@ -75,7 +75,7 @@ here_front bs i at w h =
 one_of : (l : List Entry) (i : ℕ) → list_all is_entry l ≡ true → i < length l → is_entry (get_or l i no_entry) ≡ true
 one_of l i h lt = true_from_ne_false (is_entry (get_or l i no_entry)) (λ f. both_ways (list_all is_entry l) (list_all_at is_entry l i no_entry lt f) h)
 
-all_take : (l : List Entry) (i : ℕ) → list_all is_entry l ≡ true → list_all is_entry (take i l) ≡ true
+pub all_take : (l : List Entry) (i : ℕ) → list_all is_entry l ≡ true → list_all is_entry (take i l) ≡ true
 all_take l i h = (and_parts (list_all is_entry (take i l)) (list_all is_entry (drop i l)) (sym (list_all-append is_entry (take i l) (drop i l)) ∙ ap (list_all is_entry) (take-append-drop i l) ∙ h)).0
 
 all_drop : (l : List Entry) (i : ℕ) → list_all is_entry l ≡ true → list_all is_entry (drop i l) ≡ true

@@ -66,3 +66,15 @@ pub record BeginsAt (bs : List ℕ) (i at : ℕ) : Type 0 where
 abbrev pub ends_from : ℕ → List Entry → List ℕ
 ends_from at [] = []
 ends_from at (e ∷ l) = (at + length (packed_entry e)) ∷ ends_from (at + length (packed_entry e)) l
+
+-- the entry of a first skip of 0, and its bytes; both hold by computing
+abbrev pub first_skip : Entry
+first_skip = record { s = 0; n = 2; fl = 32768; fh = 16384 }
+
+pub record Worked : Type 0 where
+  pub skip : packed_entry first_skip ≡ 0x00 ∷ 0x02 ∷ 0x80 ∷ 0x80 ∷ 0x02 ∷ 0x80 ∷ 0x80 ∷ 0x01 ∷ []
+  pub skip_back : unpacked (packed_entry first_skip) ≡ first_skip ∷ []
+  pub one_byte : groups 127 ≡ 0x7f ∷ []
+  pub two_bytes : groups 128 ≡ 0x80 ∷ 0x01 ∷ []
+  pub two_bytes_still : groups 16383 ≡ 0xff ∷ 0x7f ∷ []
+  pub three_bytes : groups 16384 ≡ 0x80 ∷ 0x80 ∷ 0x01 ∷ []
