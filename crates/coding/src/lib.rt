@@ -3,7 +3,7 @@
 
 use av1::Cell;
 use journal::{Log, Spot, Window};
-use record::pack::packed_bytes;
+use packed::packed_bytes;
 use record::{Sink, WordRecord};
 use replay::make_call;
 use script::{Answered, Digest, Recorded, Script, StartRefused, State};

@@ -1,7 +1,6 @@
 //! Records of entries: what every sink and every source promises, and the word record with its source.
 #![tactic(auto)]
 
-pub mod pack;
 pub mod sink;
 pub mod source;
 pub mod word;

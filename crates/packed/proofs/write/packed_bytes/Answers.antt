@@ -4,10 +4,10 @@ use Rattle.std.proofs.lemmas.Iterator.{YieldsList-from_range, YieldsList-from_ma
 use Rattle.std.proofs.lemmas.Iterator.Adapters.{fits_from_length, at_most_from_yields_List}
 use Rattle.std.proofs.lemmas.Iterator.Consumers.{YieldsList-at, YieldsList-from_filter_map, sum_by_from_yields_List}
 use Rattle.cdf.specs.declared.entry.Entry.{Entry}
-use Rattle.record.specs.Packing.{packed_entry}
+use Rattle.packed.specs.Packing.{packed_entry}
 use Rattle.record.specs.Sinks.{most_entries}
-use Rattle.record.proofs.Packs.{all_entries, entry_there, packed_sum}
-use Rattle.record.proofs.pack.packed_bytes.Goals as goal
+use Rattle.packed.proofs.Packs.{all_entries, entry_there, packed_sum}
+use Rattle.packed.proofs.write.packed_bytes.Goals as goal
 
 pub sum-requires-clause-fits : goal.sum-requires-clause-fits
 sum-requires-clause-fits g c =

@@ -1,0 +1,5 @@
+pub mod Backwards
+pub mod Checking
+pub mod Records
+mod Packs
+pub mod Unpacking
