@@ -3,10 +3,10 @@
 
 use av1::Cell;
 use journal::{Log, Spot, Window};
-use packed::packed_bytes;
+use packed::{PackedRecord, pack};
 use record::{Sink, WordRecord};
 use replay::make_call;
-use script::{Answered, Digest, Recorded, Script, StartRefused, State};
+use script::{Answered, Digest, Recorded, Script, SinkKind, StartRefused, State};
 use stage::Stage;
 use std::alloc::Global;
 use std::fmt::Write;
@@ -26,27 +26,24 @@ fn digest(stage: &Stage, cells: &[Cell]) -> u64 {
     d.value()
 }
 
-/// Codes a script, and answers what is to be printed.
-pub fn code(heap: Global, script: &Script) -> anyhow::Result<String> {
-    let mut out = String::new(heap);
-    let units = script.columns.saturating_mul(script.rows).min(1_048_576);
-    let mut map = vec![in heap; Cell {
-        skip: false,
-        segment: 0
-    }; units]?;
-    let mut stage = match Stage::start(
-        script.columns,
-        script.rows,
-        u8::try_from(script.last).unwrap_or(u8::MAX),
-        &mut map,
-    ) {
-        Ok(stage) => stage,
-        Err(e) => {
-            writeln!(&mut out, "{}", StartRefused(e))?;
-            return Ok(out);
-        }
-    };
-    let mut sink = WordRecord::new(heap, script.places)?;
+/// What a script's calls come to.
+#[derive(Drop)]
+pub struct Coding {
+    /// What is to be printed.
+    pub report: String,
+    /// The record, packed.
+    pub packed: Vec<u8>,
+}
+
+/// Makes a script's calls over a sink, and goes on with the report.
+fn code_over<S: Sink>(
+    heap: Global,
+    script: &Script,
+    mut stage: Stage,
+    map: &mut [Cell],
+    sink: &mut S,
+    mut report: String,
+) -> anyhow::Result<Coding> {
     let mut small = vec![in heap; Window {
         first: 0,
         words: [0; 4]
@@ -63,9 +60,9 @@ pub fn code(heap: Global, script: &Script) -> anyhow::Result<String> {
     };
     for line in &script.lines {
         let call = line.written.call(stage.trials());
-        let answer = make_call(&mut stage, &mut sink, &mut map, &mut log, call);
+        let answer = make_call(&mut stage, sink, map, &mut log, call);
         writeln!(
-            &mut out,
+            &mut report,
             "{}",
             Answered {
                 line: line.number,
@@ -73,15 +70,51 @@ pub fn code(heap: Global, script: &Script) -> anyhow::Result<String> {
             }
         )?;
     }
-    writeln!(&mut out)?;
+    let packed = pack(heap, sink)?;
+    writeln!(&mut report)?;
     writeln!(
-        &mut out,
+        &mut report,
         "{}",
         Recorded {
             entries: sink.count(),
-            bytes: packed_bytes(&sink)
+            bytes: packed.len()
         }
     )?;
-    writeln!(&mut out, "{}", State(digest(&stage, &map)))?;
-    Ok(out)
+    writeln!(&mut report, "{}", State(digest(&stage, map)))?;
+    Ok(Coding { report, packed })
+}
+
+/// Codes a script.
+pub fn code(heap: Global, script: &Script) -> anyhow::Result<Coding> {
+    let mut report = String::new(heap);
+    let units = script.columns.saturating_mul(script.rows).min(1_048_576);
+    let mut map = vec![in heap; Cell {
+        skip: false,
+        segment: 0
+    }; units]?;
+    let stage = match Stage::start(
+        script.columns,
+        script.rows,
+        u8::try_from(script.last).unwrap_or(u8::MAX),
+        &mut map,
+    ) {
+        Ok(stage) => stage,
+        Err(e) => {
+            writeln!(&mut report, "{}", StartRefused(e))?;
+            return Ok(Coding {
+                report,
+                packed: Vec::new(heap),
+            });
+        }
+    };
+    match script.sink {
+        SinkKind::Word { places } => {
+            let mut sink = WordRecord::new(heap, places)?;
+            code_over(heap, script, stage, &mut map, &mut sink, report)
+        }
+        SinkKind::Packed { bytes } => {
+            let mut sink = PackedRecord::new(heap, bytes)?;
+            code_over(heap, script, stage, &mut map, &mut sink, report)
+        }
+    }
 }

@@ -16,7 +16,7 @@ use std::{env, fs};
 /// What is printed for a script: what its calls answer, or its fault.
 fn printed(heap: Global, text: &str) -> anyhow::Result<String> {
     match parse(heap, text) {
-        Ok(script) => code(heap, &script),
+        Ok(script) => Ok(code(heap, &script)?.report),
         Err(e) => Ok(e.to_string(heap)?),
     }
 }

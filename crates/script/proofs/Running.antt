@@ -80,7 +80,7 @@ finished text rest n h cs (Ok s) o e f =
       progress = record { number = n; head = h; calls = cs };
       whole = subst (Lines text o.seen) (nil_from_length rest e) o.cut;
       read = o.ran;
-      made = record { tile = f.tile; places = f.places; log = f.log; calls = f.calls };
+      made = record { tile = f.tile; sink = f.sink; log = f.log; calls = f.calls };
     }
 finished text rest n h cs (Err error.Memory) o e f = tt
 finished text rest n h cs (Err (error.Line k g w)) o e f =

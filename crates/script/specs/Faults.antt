@@ -7,7 +7,6 @@ use Rattle.script.specs.declared.fault.ScriptError.TheVariants.{Memory, Line}
 
 abbrev pub fault_text : Fault → List ℕ
 fault_text no.UnknownWord = codes "unknown word"
-fault_text no.NotSupported = codes "not supported yet:"
 fault_text no.MissingWord = codes "missing word after"
 fault_text no.ExtraWord = codes "word too much:"
 fault_text no.NotANumber = codes "not a number:"

@@ -11,6 +11,8 @@ use Rattle.script.specs.declared.head.Head.{Head}
 use Rattle.script.specs.declared.parse.Line.{Line}
 use Rattle.script.specs.declared.parse.Script.{Script}
 use Rattle.journal.specs.declared.Counts.{Counts}
+use Rattle.script.specs.declared.statement.SinkKind.{SinkKind}
+use Rattle.script.specs.declared.statement.SinkKind.TheVariants as sink
 use Rattle.script.specs.declared.statement.Statement.{Statement}
 use Rattle.script.specs.declared.statement.Statement.TheVariants as says
 use Rattle.script.specs.declared.written.Written.{Written}
@@ -19,14 +21,14 @@ use Rattle.script.specs.Statements.{and_then, statement_of}
 
 -- nothing is set yet
 abbrev pub start : Head
-start = record { tile = None; places = None; log = None; called = false }
+start = record { tile = None; sink = None; log = None; called = false }
 
 -- whether a statement may stand here, and the call that it makes
 abbrev pub settled : Head → Statement → Result (Option Written) Fault
 settled h says.Blank = Ok None
 settled h (says.Tile t) = cond (is_some h.tile) (Err no.SecondTile) (Ok None)
 settled h (says.Sink n) =
-    cond (is_some h.tile) (cond h.called (Err no.Late) (cond (is_some h.places) (Err no.SecondSink) (Ok None))) (Err no.NoTile)
+    cond (is_some h.tile) (cond h.called (Err no.Late) (cond (is_some h.sink) (Err no.SecondSink) (Ok None))) (Err no.NoTile)
 settled h (says.Log n) =
     cond (is_some h.tile) (cond h.called (Err no.Late) (cond (is_some h.log) (Err no.SecondLog) (Ok None))) (Err no.NoTile)
 settled h (says.Call call) = cond (is_some h.tile) (Ok (Some call)) (Err no.NoTile)
@@ -34,10 +36,10 @@ settled h (says.Call call) = cond (is_some h.tile) (Ok (Some call)) (Err no.NoTi
 -- what is set after a statement that may stand here
 abbrev pub head_after : Head → Statement → Head
 head_after h says.Blank = h
-head_after h (says.Tile t) = record { tile = Some t; places = h.places; log = h.log; called = h.called }
-head_after h (says.Sink n) = record { tile = h.tile; places = Some n; log = h.log; called = h.called }
-head_after h (says.Log n) = record { tile = h.tile; places = h.places; log = Some n; called = h.called }
-head_after h (says.Call call) = record { tile = h.tile; places = h.places; log = h.log; called = true }
+head_after h (says.Tile t) = record { tile = Some t; sink = h.sink; log = h.log; called = h.called }
+head_after h (says.Sink n) = record { tile = h.tile; sink = Some n; log = h.log; called = h.called }
+head_after h (says.Log n) = record { tile = h.tile; sink = h.sink; log = Some n; called = h.called }
+head_after h (says.Call call) = record { tile = h.tile; sink = h.sink; log = h.log; called = true }
 
 -- what the line says
 abbrev pub spoken : List ℕ → Result Statement Fault
@@ -99,14 +101,17 @@ abbrev pub Lines : List ℕ → List (List ℕ) → List ℕ → Type 0
 Lines text [] rest = text ≡ rest
 Lines text (l ∷ ls) rest = (more : List ℕ) × (0 < length text) × lines.IsFirstLine text l more × Lines more ls rest
 
--- how many records the lanes have room for where no line says it
+-- the sink, and how many records the lanes have room for, where no line says it
+abbrev pub usual_sink : SinkKind
+usual_sink = sink.Packed 16777216
+
 abbrev pub usual_log : Counts
 usual_log = record { small = 65536; large = 4096; spots = 1048576 }
 
 -- the script that the lines make
 pub record Scripted (p : Progress) (s : Script) : Type 0 where
   pub tile : p.head.tile ≡ Some (record { columns = s.columns; rows = s.rows; last = s.last })
-  pub places : s.places ≡ unwrap_or p.head.places 1048576
+  pub sink : s.sink ≡ unwrap_or p.head.sink usual_sink
   pub log : s.log ≡ unwrap_or p.head.log usual_log
   pub calls : vec_items s.lines ≡ p.calls
 

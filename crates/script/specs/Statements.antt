@@ -10,6 +10,8 @@ use Rattle.av1.specs.Sizes.{all_sizes}
 use Rattle.av1.specs.declared.call.Call.{Call}
 use Rattle.av1.specs.declared.call.Call.TheVariants.{Partition, Skip, Segment, Alphas, Vector, ContextUpdate, RowStart, Open, TakeBack, Keep}
 use Rattle.av1.specs.declared.tile.TileBlockOffset.{TileBlockOffset}
+use Rattle.script.specs.declared.statement.SinkKind.{SinkKind}
+use Rattle.script.specs.declared.statement.SinkKind.TheVariants as sink
 use Rattle.script.specs.declared.statement.Statement.{Statement}
 use Rattle.script.specs.declared.statement.Statement.TheVariants as says
 use Rattle.script.specs.declared.written.Written.{Written}
@@ -71,12 +73,15 @@ tile_at ws =
     and_then (number_at (drop 1 (drop 1 ws))) (λ l.
     and_then (end_at (drop 1 (drop 1 (drop 1 ws)))) (λ _. Ok (says.Tile (record { columns = c; rows = r; last = l }))))))
 
-abbrev pub word_sink_at : List (List ℕ) → Result Statement Fault
-word_sink_at ws = and_then (number_at ws) (λ n. and_then (end_at (drop 1 ws)) (λ _. Ok (says.Sink n)))
+-- a sink of so many places or bytes, whose line ends behind the number
+abbrev pub sized_at : (ℕ → SinkKind) → List (List ℕ) → Result Statement Fault
+sized_at kind ws = and_then (number_at ws) (λ n. and_then (end_at (drop 1 ws)) (λ _. Ok (says.Sink (kind n))))
 
 -- a sink of the kind w
 abbrev pub sink_from : List ℕ → List (List ℕ) → Result Statement Fault
-sink_from w ws = cond (bytes_eq w (codes "word")) (word_sink_at ws) (cond (bytes_eq w (codes "packed")) (Err no.NotSupported) (Err no.UnknownSink))
+sink_from w ws =
+    cond (bytes_eq w (codes "word")) (sized_at (λ n. sink.Word n) ws)
+    (cond (bytes_eq w (codes "packed")) (sized_at (λ n. sink.Packed n) ws) (Err no.UnknownSink))
 
 abbrev pub sink_at : List (List ℕ) → Result Statement Fault
 sink_at ws = wanted (λ w. sink_from w (drop 1 ws)) (first ws)

@@ -10,8 +10,6 @@ use std::fmt;
 pub enum Fault {
     /// The first word of a line is no word of a script.
     UnknownWord,
-    /// The word is known, and what it asks for is not there yet.
-    NotSupported,
     /// The line ends where a word has to follow.
     MissingWord,
     /// A word follows where the line has to end.
@@ -41,7 +39,6 @@ impl fmt::Display for Fault {
     fn fmt<W: fmt::Write>(&self, f: &mut fmt::Formatter<W>) -> fmt::Result {
         f.write_str(match self {
             Fault::UnknownWord => "unknown word",
-            Fault::NotSupported => "not supported yet:",
             Fault::MissingWord => "missing word after",
             Fault::ExtraWord => "word too much:",
             Fault::NotANumber => "not a number:",

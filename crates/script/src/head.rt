@@ -2,7 +2,7 @@ ghost use Rattle.std.specs.Prelude.{◌≡◌, MatchResult};
 ghost use Rattle.script.specs.Scripts.{start, settled, head_after, ReadsLine};
 
 use crate::fault::{Fault, ScriptError};
-use crate::statement::{Statement, TileLine};
+use crate::statement::{SinkKind, Statement, TileLine};
 use crate::words::Words;
 use crate::written::Written;
 use journal::Counts;
@@ -12,7 +12,7 @@ use std::alloc::Global;
 #[derive(Clone, Copy)]
 pub(crate) struct Head {
     pub(crate) tile: Option<TileLine>,
-    pub(crate) places: Option<usize>,
+    pub(crate) sink: Option<SinkKind>,
     pub(crate) log: Option<Counts>,
     called: bool,
 }
@@ -23,7 +23,7 @@ impl Head {
     {
         Head {
             tile: None,
-            places: None,
+            sink: None,
             log: None,
             called: false,
         }
@@ -45,9 +45,9 @@ impl Head {
                 Err(Fault::NoTile)
             }
             Statement::Sink(_) | Statement::Log(_) if self.called => Err(Fault::Late),
-            Statement::Sink(_) if self.places.is_some() => Err(Fault::SecondSink),
-            Statement::Sink(places) => {
-                self.places = Some(places);
+            Statement::Sink(_) if self.sink.is_some() => Err(Fault::SecondSink),
+            Statement::Sink(sink) => {
+                self.sink = Some(sink);
                 Ok(None)
             }
             Statement::Log(_) if self.log.is_some() => Err(Fault::SecondLog),

@@ -4,12 +4,13 @@ ghost use Rattle.script.specs.Scripts.{Finishes, Parses};
 
 use crate::fault::{Fault, ScriptError};
 use crate::head::Head;
+use crate::statement::SinkKind;
 use crate::written::Written;
 use journal::Counts;
 use std::alloc::Global;
 
-/// How many places a sink has where the script does not say.
-const PLACES: usize = 1_048_576;
+/// The sink where the script names none.
+const SINK: SinkKind = SinkKind::Packed { bytes: 16_777_216 };
 
 /// How many records the lanes have room for where the script does not say.
 const LOG: Counts = Counts {
@@ -25,13 +26,13 @@ pub struct Line {
     pub written: Written,
 }
 
-/// A script: the tile, the sink's places, the lanes' records, and the calls in order.
+/// A script: the tile, the sink, the lanes' records, and the calls in order.
 #[derive(Drop)]
 pub struct Script {
     pub columns: usize,
     pub rows: usize,
     pub last: usize,
-    pub places: usize,
+    pub sink: SinkKind,
     pub log: Counts,
     pub lines: Vec<Line>,
 }
@@ -49,7 +50,7 @@ fn finish(heap: Global, head: Head, text: &str, calls: Vec<Line>) -> Result<Scri
         columns: tile.columns,
         rows: tile.rows,
         last: tile.last,
-        places: head.places.unwrap_or(PLACES),
+        sink: head.sink.unwrap_or(SINK),
         log: head.log.unwrap_or(LOG),
         lines: calls,
     })

@@ -18,12 +18,19 @@ pub(crate) struct TileLine {
     pub(crate) last: usize,
 }
 
+/// The sink of a script, and how large it is.
+#[derive(Clone, Copy, PartialEq, Debug)]
+pub enum SinkKind {
+    Word { places: usize },
+    Packed { bytes: usize },
+}
+
 /// What a line says.
 #[derive(Clone, Copy)]
 pub(crate) enum Statement {
     Blank,
     Tile(TileLine),
-    Sink(usize),
+    Sink(SinkKind),
     /// How many records each lane has room for.
     Log(Counts),
     Call(Written),
@@ -96,7 +103,7 @@ impl<'a> Words<'a> {
         }))
     }
 
-    /// word PLACES
+    /// word PLACES, or packed BYTES
     fn sink(&mut self) -> Result<Statement, Fault>
         ensures { result ≡ sink_at (unread self.old.rest) }
     {
@@ -104,9 +111,13 @@ impl<'a> Words<'a> {
             "word" => {
                 let places = self.read()?;
                 self.end()?;
-                Ok(Statement::Sink(places))
+                Ok(Statement::Sink(SinkKind::Word { places }))
             }
-            "packed" => Err(Fault::NotSupported),
+            "packed" => {
+                let bytes = self.read()?;
+                self.end()?;
+                Ok(Statement::Sink(SinkKind::Packed { bytes }))
+            }
             _ => Err(Fault::UnknownSink),
         }
     }

@@ -2,6 +2,7 @@ use crate::digest::Digest;
 use crate::name::Named;
 use crate::parse::parse;
 use crate::report::{Answered, Recorded, StartRefused, State};
+use crate::statement::SinkKind;
 use crate::word::Word;
 use crate::written::Written;
 use av1::{Answer, BlockSize, Call, MvSubpelPrecision, PartitionType, Refusal, TileBlockOffset};
@@ -30,7 +31,8 @@ fn a_script_is_read(rt: HostRuntime) -> Result<(), Fail> {
     let text = "# a tile\ntile 16 8 7\r\n\n sink\tword 40 # small\nskip 4 0 16X8 1\nskip 0 2 8X8 0";
     let script = parse(rt.alloc(), text)?;
     assert_eq!(rt; (script.columns, script.rows), (16, 8));
-    assert_eq!(rt; (script.last, script.places), (7, 40));
+    assert_eq!(rt; script.last, 7);
+    assert_eq!(rt; script.sink, SinkKind::Word { places: 40 });
     assert!(rt; script.lines.len() == 2);
     assert_eq!(rt; (script.lines[0].number, script.lines[1].number), (5, 6));
     let skip = Call::Skip {
@@ -202,14 +204,15 @@ fn the_innermost_trial_is_meant(rt: HostRuntime) -> Result<(), Fail> {
 
 #[test]
 fn the_lanes_are_read(rt: HostRuntime) -> Result<(), Fail> {
-    let text = "tile 8 8 7\nlog 1 0 20\nsink word 2\nopen";
+    let text = "tile 8 8 7\nlog 1 0 20\nopen";
     let script = parse(rt.alloc(), text)?;
     assert_eq!(rt; (script.log.small, script.log.large), (1, 0));
-    assert_eq!(rt; (script.log.spots, script.places), (20, 2));
+    assert_eq!(rt; script.log.spots, 20);
+    assert_eq!(rt; script.sink, SinkKind::Packed { bytes: 16_777_216 });
     Ok(())
 }
 
-const BAD: [(&str, &str); 43] = [
+const BAD: [(&str, &str); 45] = [
     ("", "line 1: no tile line before 'end of script'"),
     ("# none\n\n", "line 3: no tile line before 'end of script'"),
     ("\nskip 0 0 8X8 1", "line 2: no tile line before 'skip'"),
@@ -225,8 +228,13 @@ const BAD: [(&str, &str); 43] = [
     ),
     ("tile 8 8 0\nsink bag 1", "line 2: unknown sink 'bag'"),
     (
-        "tile 8 8 0\nsink packed 1",
-        "line 2: not supported yet: 'packed'",
+        "tile 8 8 0\nsink packed",
+        "line 2: missing word after 'packed'",
+    ),
+    ("tile 8 8 0\nsink packed -1", "line 2: negative number '-1'"),
+    (
+        "tile 8 8 0\nsink word 1\nsink packed 1",
+        "line 3: second sink line: 'sink'",
     ),
     ("row", "line 1: no tile line before 'row'"),
     (
