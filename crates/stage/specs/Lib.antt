@@ -2,6 +2,7 @@ pub mod Alphas
 pub mod Cells
 pub mod Coding
 pub mod Contexts
+pub mod Faults
 pub mod Lanes
 pub mod Partitions
 pub mod Places
