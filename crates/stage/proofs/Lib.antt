@@ -7,6 +7,10 @@ mod Coding
 mod Contexts
 mod Partitions
 mod Places
+mod ReadCalls
+mod ReadPoints
+mod ReadTrees
+mod Readers
 mod Segments
 mod Skips
 mod Starts

@@ -34,3 +34,8 @@ seen_by f (Err e) = Err (stop_of e)
 
 abbrev pub seen : {D : Type 0} → Result D ReadError → Result D Stop
 seen r = seen_by (λ d. d) r
+
+-- a call that reads no symbol stops at a question only
+abbrev pub turned_by : {A : Type 0} → Result A Refusal → Result A Stop
+turned_by (Ok a) = Ok a
+turned_by (Err n) = Err (turned n)

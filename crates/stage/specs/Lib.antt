@@ -7,5 +7,6 @@ pub mod Lanes
 pub mod Partitions
 pub mod Places
 pub mod Questions
+pub mod Reads
 pub mod Vectors
 pub mod View

@@ -4,6 +4,8 @@ ghost use Rattle.stage.specs.View.{open_trials};
 use crate::state::Stage;
 
 pub mod fault;
+mod start;
+mod symbols;
 
 /// The reader of one tile. The map and the source are lent to each call. It is a stage on which no trial is ever opened,
 /// so that nothing is logged.
