@@ -1,12 +1,17 @@
 -- Reading in a stage: what the symbols of a syntax were read as, and what that made of the stage and the source.
-use Rattle.std.specs.Prelude.{◌≡◌, ℕ, ◌-◌, ◌<◌, ◌≤◌, false, List, drop, is_ok, IfOk, Ok, Err, Result}
+use Rattle.std.specs.Prelude.{◌≡◌, ℕ, ◌-◌, ◌<◌, ◌≤◌, false, List, [], drop, is_ok, IfOk, Ok, Err, Result}
+use Rattle.av1.specs.declared.tile.Block.{Block}
 use Rattle.cdf.specs.declared.entry.Entry.{Entry}
 use Rattle.model.specs.Coders.{Coder, symbols}
+use Rattle.model.specs.Decisions.{State, block_cells}
+use Rattle.model.specs.Facts.{with_cells}
 use Rattle.model.specs.Tree.{Answer, Syntax, coded, done, faulty, read, read_as}
 use Rattle.stage.specs.declared.reader.fault.ReadFault.{ReadFault}
 use Rattle.stage.specs.declared.reader.fault.ReadFault.TheVariants as fault
 use Rattle.stage.specs.declared.reader.fault.SymbolFault.{SymbolFault}
 use Rattle.stage.specs.declared.state.Stage.{Stage}
+use Rattle.stage.specs.declared.state.cells.Change.{Change}
+use Rattle.stage.specs.Cells.{change_each, logged_cells}
 use Rattle.stage.specs.Faults.{fault_of}
 
 -- a stage with the list of a source and the place in it
@@ -51,3 +56,8 @@ pub record Took (k : Coder) (m n : Point) (r : Result ℕ SymbolFault) : Type 0 
   pub reads : (start : ℕ) → Reads start (coded k (λ s. done s)) m n (beside (m.place - start) r)
   pub below : IfOk r (λ s. s < symbols k)
   pub still : is_ok r ≡ false → (n.stage ≡ m.stage) × (n.place ≡ m.place)
+
+-- a block's cells changed one after the other, while nothing is logged
+abbrev pub block_set : Change → Block → State → State
+block_set k b s =
+    with_cells s (change_each [] k (block_cells s.columns b.width b.from b.height) (logged_cells s.cells [] 0)).cells

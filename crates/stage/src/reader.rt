@@ -3,7 +3,9 @@ ghost use Rattle.stage.specs.View.{open_trials};
 
 use crate::state::Stage;
 
+mod cells;
 pub mod fault;
+mod skip;
 mod start;
 mod symbols;
 
