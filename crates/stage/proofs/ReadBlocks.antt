@@ -7,7 +7,7 @@ use Rattle.av1.specs.declared.refusal.Refusal.TheVariants as no
 use Rattle.av1.specs.declared.size.BlockSize.{BlockSize}
 use Rattle.av1.specs.declared.tile.Block.{Block}
 use Rattle.av1.specs.declared.tile.Cell.{Cell}
-use Rattle.av1.specs.Sizes.{no_side_above}
+use Rattle.av1.specs.Sizes.{no_side_above, splits}
 use Rattle.av1.specs.Tiles.{block_at, block_asked, no_cell}
 use Rattle.av1.specs.Tiles as tile
 use Rattle.cdf.specs.declared.entry.Entry.{Entry}
@@ -85,6 +85,16 @@ block_asked_first columns rows memory x y z = go (leb (columns * rows) memory) (
     go true true false = refl
     go true false d = refl
     go false c d = refl
+
+-- and of one that asks for a square
+pub square_asked_first : (columns rows x y : ℕ) (z : BlockSize)
+    → or_else (unless (splits 64 z) no.BlockSize) (unless (tile.in_tile columns rows x y z) no.Position) ≡ refused_by (tile.square_asked columns rows 64 x y z)
+square_asked_first columns rows x y z = go (splits 64 z) (tile.in_tile columns rows x y z)
+  where
+    go : (a b : Bool) → or_else (unless a no.BlockSize) (unless b no.Position) ≡ refused_by (cond a (cond b (Ok (tt {0})) (Err no.Position)) (Err no.BlockSize))
+    go true true = refl
+    go true false = refl
+    go false b = refl
 
 -- spots set in a world are set in its state
 steps_state : (ps : List Spot) (w : World stage) → (spot_steps ps w).core.state ≡ put_spots w.core.state ps

@@ -1,7 +1,9 @@
 -- Reading from one point to another: a symbol, one syntax after another, and the end of a decision.
-use Rattle.std.proofs.Common.{◌≡◌, ℕ, suc, ◌+◌, ◌-◌, ◌<◌, ◌≤◌, true, false, length, drop, Ok, Err, Result, sym, refl, ap, ◌∙◌, subst, add-one, arith}
+use Rattle.std.proofs.Common.{◌≡◌, ℕ, suc, ◌+◌, ◌-◌, ◌<◌, ◌≤◌, Bool, true, false, length, drop, Ok, Err, Result, sym, refl, ap, ◌∙◌, subst, add-one, arith}
 use Rattle.std.proofs.lemmas.Bool.{both_ways}
+use Rattle.cdf.specs.Words.{Table}
 use Rattle.model.specs.Coders.{Coder, after, coded_by, symbols, table_of}
+use Rattle.model.specs.Decisions.{partition_tree}
 use Rattle.model.specs.Tree.{Answer, Syntax, and_then, coded, done, read, read_as, read_by}
 use Rattle.model.proofs.Trees.{by_then}
 use Rattle.record.specs.declared.source.SourceFault.{SourceFault}
@@ -111,3 +113,10 @@ pub entry_stops : (k : Coder) (m n : Point) (r : Result ℕ SymbolFault) (start 
 entry_stops k m n r start entry f took given number =
     subst (λ e. Reads start (coded k (λ s. done s)) m n (Err (fault.Symbol f e))) (sym number)
     (subst (λ x. Reads start (coded k (λ s. done s)) m n (beside (m.place - start) x)) given (took.reads start))
+
+-- the same of a partition's syntax, from what the code tested
+pub partition_read : {start p : ℕ} {m n : Point} {r : Result ℕ ReadFault} (a b : Bool) (t : Table) (rows cols : Bool) → start ≡ p → a ≡ rows → b ≡ cols
+    → Reads start (partition_tree rows cols t) m n r → Reads p (partition_tree a b t) m n r
+partition_read {start} {p} {m} {n} {r} a b t rows cols at up along x =
+    subst (λ i. Reads i (partition_tree a b t) m n r) at
+    (subst (λ i. Reads start (partition_tree i b t) m n r) (sym up) (subst (λ i. Reads start (partition_tree rows i t) m n r) (sym along) x))

@@ -46,6 +46,15 @@ pub record Reads {D : Type 0} (start : ℕ) (t : Syntax D) (m n : Point) (r : Re
   pub on : m.place ≤ n.place
   pub kept : OnlyTables n.stage m.stage
 
+-- a syntax of one symbol
+abbrev pub symbol_tree : Coder → Syntax ℕ
+symbol_tree k = coded k (λ s. done s)
+
+-- a result with something made of its value
+abbrev pub mapped : {A B E : Type 0} → (A → B) → Result A E → Result B E
+mapped f (Ok a) = Ok (f a)
+mapped f (Err e) = Err e
+
 -- a symbol's fault, with the number of its entry
 abbrev pub beside : ℕ → Result ℕ SymbolFault → Result ℕ ReadFault
 beside entry (Ok s) = Ok s
@@ -53,7 +62,7 @@ beside entry (Err f) = Err (fault.Symbol f entry)
 
 -- from one point to another a symbol was read by a coder, or nothing has changed
 pub record Took (k : Coder) (m n : Point) (r : Result ℕ SymbolFault) : Type 0 where
-  pub reads : (start : ℕ) → Reads start (coded k (λ s. done s)) m n (beside (m.place - start) r)
+  pub reads : (start : ℕ) → Reads start (symbol_tree k) m n (beside (m.place - start) r)
   pub below : IfOk r (λ s. s < symbols k)
   pub still : is_ok r ≡ false → (n.stage ≡ m.stage) × (n.place ≡ m.place)
 

@@ -5,6 +5,7 @@ use crate::state::Stage;
 
 mod cells;
 pub mod fault;
+mod partition;
 mod skip;
 mod start;
 mod symbols;

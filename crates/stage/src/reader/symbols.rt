@@ -2,7 +2,7 @@ ghost use Rattle.std.specs.Prelude.{◌≡◌, ◌<◌, ◌≤◌, false, is_ok,
 ghost use Rattle.cdf.specs.Entries.{edge_symbols};
 ghost use Rattle.model.specs.Coders as coder;
 ghost use Rattle.model.specs.Tree.{one};
-ghost use Rattle.stage.specs.Reads.{point, OnlyTables, Reads, Took};
+ghost use Rattle.stage.specs.Reads.{point, symbol_tree, OnlyTables, Reads, Took};
 ghost use Rattle.stage.specs.View.{table_of};
 
 use crate::reader::Reader;
@@ -65,6 +65,25 @@ impl Reader {
         let entry = source.place() - start;
         let s = self
             .read_symbol(source, table)
+            .map_err(|symbol| (symbol, entry))?;
+        Ok(s)
+    }
+
+    // The same at an edge.
+    pub(super) fn read_edge_entry<Q: Source>(
+        &self,
+        source: &mut Q,
+        start: usize,
+        table: Table,
+        edge: Edge,
+    ) -> Result<u8, ReadFault>
+        requires { start ≤ Q.Source.place source.old }
+        ensures reads { Reads start (symbol_tree (coder.edge (table_of table) (edge_symbols edge))) (point self.now.stage (Q.Source.list source.old) (Q.Source.place source.old)) (point self.now.stage (Q.Source.list source.new) (Q.Source.place source.new)) result }
+        ensures still { is_ok result ≡ false → Q.Source.place source.new ≡ Q.Source.place source.old }
+    {
+        let entry = source.place() - start;
+        let s = self
+            .read_edge_symbol(source, table, edge)
             .map_err(|symbol| (symbol, entry))?;
         Ok(s)
     }
