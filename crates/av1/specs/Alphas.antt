@@ -15,6 +15,17 @@ sign_number CFL_SIGN_ZERO = 0
 sign_number CFL_SIGN_NEG = 1
 sign_number CFL_SIGN_POS = 2
 
+-- the context of an alpha by its sign and the other's; a zero has none
+abbrev pub alpha_context : ℕ → ℕ → Option ℕ
+alpha_context zero other = None
+alpha_context (suc n) other = Some (3 * n + other)
+
+-- an alpha by its sign and its magnitude less one
+abbrev pub alpha_at : ℕ → ℕ → ℤ
+alpha_at zero a = pos 0
+alpha_at (suc zero) a = negsuc a
+alpha_at (suc (suc n)) a = pos (suc a)
+
 -- in -16..16, and not both zero
 abbrev pub alphas_allowed : ℤ × ℤ → Bool
 alphas_allowed d =

@@ -1,5 +1,5 @@
-ghost use Rattle.std.specs.Prelude.{◌≡◌, ◌+◌, ◌<◌, ◌≤◌, IsTrue, [], ◌∷◌, is_some, IfSome, All};
-ghost use Rattle.av1.specs.Alphas.{sign_of, sign_number, alphas_allowed, joint_sign, coded_alpha};
+ghost use Rattle.std.specs.Prelude.{◌≡◌, ◌+◌, ◌<◌, ◌≤◌, IsTrue, [], ◌∷◌, is_some, IfSome, All, nat_lt};
+ghost use Rattle.av1.specs.Alphas.{sign_of, sign_number, alpha_context, alpha_at, alphas_allowed, joint_sign, coded_alpha};
 ghost use Rattle.av1.specs.Vectors.{magnitude, nonzero};
 
 use std::cmp::Ordering;
@@ -30,6 +30,39 @@ impl CFLSign {
     {
         self as usize
     }
+
+    /// The sign of this number.
+    pub fn from_number(number: usize) -> Option<CFLSign>
+        ensures listed { is_some result ≡ nat_lt number 3 }
+        ensures number { IfSome result (λ s. sign_number s ≡ number) }
+    {
+        match number {
+            0 => Some(CFLSign::CFL_SIGN_ZERO),
+            1 => Some(CFLSign::CFL_SIGN_NEG),
+            2 => Some(CFLSign::CFL_SIGN_POS),
+            _ => None,
+        }
+    }
+
+    /// The context of an alpha of this sign beside one of the other; a zero has none.
+    pub fn context(self, other: CFLSign) -> Option<usize>
+        ensures value { result ≡ alpha_context (sign_number self) (sign_number other) }
+        ensures within { IfSome result (λ c. c < 6) }
+    {
+        let sign = self.number().checked_sub(1)?;
+        Some(3 * sign + other.number())
+    }
+
+    /// The alpha of this sign whose magnitude is one more than `symbol`.
+    pub fn alpha(self, symbol: u8) -> i32
+        ensures { result ≡ alpha_at (sign_number self) symbol }
+    {
+        match self {
+            CFLSign::CFL_SIGN_ZERO => 0,
+            CFLSign::CFL_SIGN_NEG => -1 - i32::from(symbol),
+            CFLSign::CFL_SIGN_POS => 1 + i32::from(symbol),
+        }
+    }
 }
 
 /// Two chroma alphas in -16..=16, not both zero.
@@ -45,9 +78,7 @@ fn coded(alpha: i32, other: i32) -> Option<(usize, usize)>
     ensures value { result ≡ coded_alpha alpha other }
     ensures within { IfSome result (λ s. (s.0 < 6) × (s.1 < magnitude alpha)) }
 {
-    // A zero's number is 0.
-    let sign = CFLSign::from_alpha(alpha).number().checked_sub(1)?;
-    let context = 3 * sign + CFLSign::from_alpha(other).number();
+    let context = CFLSign::from_alpha(alpha).context(CFLSign::from_alpha(other))?;
     Some((context, alpha.unsigned_abs() as usize - 1))
 }
 

@@ -1,5 +1,5 @@
-ghost use Rattle.std.specs.Prelude.{◌≡◌, ◌*◌, ◌^◌, ◌<◌, ◌≤◌, max, ◌&&◌, IfSome, if◌then◌else◌, Some, None, nat_le};
-ghost use Rattle.av1.specs.Vectors.{magnitude, sign_bit, joined, class_base, class_of, offset_of, JoinUndoesSplit};
+ghost use Rattle.std.specs.Prelude.{◌≡◌, ◌+◌, ◌*◌, ◌^◌, ◌<◌, ◌≤◌, max, ◌&&◌, IfSome, if◌then◌else◌, Some, None, nat_le, nat_lt};
+ghost use Rattle.av1.specs.Vectors.{magnitude, sign_bit, signed, joined, class_base, class_of, offset_of, JoinUndoesSplit};
 
 /// How fine a motion vector is: whole pixels, quarters or eighths of one.
 #[derive(Clone, Copy, PartialEq, Debug)]
@@ -70,6 +70,16 @@ pub fn join_component(sign: u32, mag: u32) -> Option<i32>
         1 => Some(-(mag as i32)),
         _ => None,
     }
+}
+
+/// The component of this sign whose magnitude less one has this class and this offset there.
+pub fn component_at(sign: u32, class: usize, offset: u32) -> Option<i32>
+    ensures { result ≡ (if nat_le sign 1 && (nat_le class 10 && nat_lt (class_base class + offset) 16384) then Some (signed sign (class_base class + offset)) else None) }
+{
+    if class > 10 || offset >= 16384 {
+        return None;
+    }
+    join_component(sign, mv_class_base(class) + offset + 1)
 }
 
 /// Joining undoes splitting.

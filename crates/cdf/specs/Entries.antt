@@ -30,5 +30,8 @@ edge_symbols edge.Right = 1 ∷ 3 ∷ 4 ∷ 5 ∷ 6 ∷ 8 ∷ []
 abbrev pub edge_values : Words → Table → List ℕ → List ℕ
 edge_values w t ss = widths t.count (words_of w t) ss ∷ 0 ∷ []
 
+abbrev pub edge_table_if : Words → Table → Edge → Option (List ℕ)
+edge_table_if w t e = cond (in_layout t) (Some (edge_values w t (edge_symbols e))) None
+
 abbrev pub edge_entry_if : Words → Table → Edge → ℕ → Option Entry
 edge_entry_if w t e s = cond (in_layout t && nat_lt s 2) (Some (entry_at 2 (edge_values w t (edge_symbols e)) s)) None

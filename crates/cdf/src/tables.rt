@@ -7,7 +7,7 @@ mod symbols;
 mod windows;
 
 /// The 430 words, in which every table is lawful and every filler word is zero.
-#[derive(Drop)]
+#[derive(Clone, Copy)]
 pub struct Tables {
     words: [u16; 430],
     ghost long: { length words ≡ 430 },

@@ -2,6 +2,7 @@ pub mod AlphaSigns
 pub mod Blocks
 pub mod Examples
 pub mod Facts
+pub mod ReadSteps
 pub mod Reading
 pub mod Signs
 pub mod Staged

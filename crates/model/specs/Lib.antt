@@ -3,6 +3,7 @@ pub mod Calls
 pub mod Coders
 pub mod Decisions
 pub mod Facts
+pub mod Reading
 pub mod Runs
 pub mod Subject
 pub mod Tree

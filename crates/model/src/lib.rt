@@ -6,6 +6,7 @@ ghost use Rattle.std.specs.Prelude.{ℕ, Bool, ℤ};
 ghost use Rattle.model.specs.Calls.{BySteps, StepsThen, SkippedAlike};
 ghost use Rattle.model.specs.Decisions.{stage, TreesInLayout};
 ghost use Rattle.model.specs.Facts.{AcceptedLeads, JointNames, SignFirst, SignsJoined, SkipSet, SegmentSet, SpotsInside, Counted, ReadsSound, ContextBits, Faults, ShortRun};
+ghost use Rattle.model.specs.Reading.{ReadsByStep};
 ghost use Rattle.model.specs.Runs.{NoTrace, ReadsRecord, TellsRunsApart, RefusedAlike, NonePassed};
 ghost use Rattle.model.specs.Tree.{TellsApart, ReadsBack, ReadThen, ReadBy};
 ghost use Rattle.model.specs.Vector.{ComponentLeads};
@@ -117,6 +118,11 @@ pub fn skipped_segment_has_no_number()
 pub fn reads_keep_sound()
     ensures reads_sound { ReadsSound }
     ensures faults { Faults }
+{}
+
+/// Reading a list of questions is reading each of them, one after the other.
+pub fn reads_go_by_step()
+    ensures { ReadsByStep }
 {}
 
 /// A call is refused exactly where the questions say no, and leaves everything as it was.

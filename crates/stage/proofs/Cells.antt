@@ -66,12 +66,12 @@ rising_append (suc n) b i rest l h = (l, rising_append n (suc i) (suc i) rest (o
     next : i + suc n ≡ suc i + n
     next = omega arith
 
-rising_block : (columns wide n b i : ℕ) → wide ≤ columns → b ≤ i → Rising b (block_cells columns wide i n)
+pub rising_block : (columns wide n b i : ℕ) → wide ≤ columns → b ≤ i → Rising b (block_cells columns wide i n)
 rising_block columns wide zero b i h l = tt
 rising_block columns wide (suc n) b i h l = rising_append wide b i (block_cells columns wide (i + columns) n) l (rising_block columns wide n (i + wide) (i + columns) h (omega arith))
 
 -- cells changed one after the other are the spots of the model, set one after the other: each place comes once
-changes_world : (k : Change) (h : ℕ → Cell) (is : List ℕ) (b : ℕ) (w : World stage) → Rising b is → Each (λ (i : ℕ). i < units w.core.state) is
+pub changes_world : (k : Change) (h : ℕ → Cell) (is : List ℕ) (b : ℕ) (w : World stage) → Rising b is → Each (λ (i : ℕ). i < units w.core.state) is
     → ((i : ℕ) → b ≤ i → changed k (get_or w.core.state.cells i no_cell) ≡ h i)
     → put_cells w (change_each w.marks k is (cells_in w)) ≡ spot_steps (map (λ i. spot.Cell i (h i)) is) w
 changes_world k h [] b w r e same = refl

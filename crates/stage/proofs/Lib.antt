@@ -7,6 +7,11 @@ mod Coding
 mod Contexts
 mod Partitions
 mod Places
+mod ReadBlocks
+mod ReadCalls
+mod ReadPoints
+mod ReadTrees
+mod Readers
 mod Segments
 mod Skips
 mod Starts

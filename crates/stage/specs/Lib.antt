@@ -2,9 +2,11 @@ pub mod Alphas
 pub mod Cells
 pub mod Coding
 pub mod Contexts
+pub mod Faults
 pub mod Lanes
 pub mod Partitions
 pub mod Places
 pub mod Questions
+pub mod Reads
 pub mod Vectors
 pub mod View

@@ -10,8 +10,8 @@ use journal::{Counts, Mark};
 mod alphas;
 mod back;
 mod bytes;
-mod cells;
-mod partition;
+pub(crate) mod cells;
+pub(crate) mod partition;
 mod questions;
 mod rows;
 mod segment;
@@ -21,7 +21,7 @@ mod symbols;
 mod token;
 mod trials;
 mod update;
-mod vector;
+pub(crate) mod vector;
 
 /// The partition contexts, a byte for 8 pixels: above the tile, and left of the superblock.
 #[derive(Drop)]
@@ -41,8 +41,8 @@ pub(crate) struct Journal {
 /// A table of the layout: its first word, and its number of symbols.
 #[derive(Clone, Copy)]
 pub(crate) struct Table {
-    first: usize,
-    n: usize,
+    pub(crate) first: usize,
+    pub(crate) n: usize,
     ghost there: { in_layout (table first n) ≡ true },
 }
 
@@ -54,11 +54,11 @@ pub struct Trial {
 /// The stage of one tile. The map, the lanes of undo records and the sink are lent to each call.
 #[derive(Drop)]
 pub struct Stage {
-    tile: Tile,
-    last: u8,
-    tables: Tables,
-    contexts: Contexts,
-    journal: Journal,
+    pub(crate) tile: Tile,
+    pub(crate) last: u8,
+    pub(crate) tables: Tables,
+    pub(crate) contexts: Contexts,
+    pub(crate) journal: Journal,
     ghost ends: { last ≤ 7 },
     ghost over: { length contexts.above ≡ 512 },
     ghost beside: { length contexts.left ≡ 8 },

@@ -86,7 +86,7 @@ impl Journal {
     }
 
     // Changes the cells of a block in a tile of `columns` columns.
-    pub(super) fn set_block(
+    pub(crate) fn set_block(
         &mut self,
         cells: &mut [Cell],
         spots: &mut [Spot],

@@ -24,7 +24,7 @@ use record::Sink;
 
 impl Contexts {
     // The context of a square of side 8 × 2^`level`: whether the blocks left and above are smaller.
-    fn partition_plane_context(&self, bo: TileBlockOffset, level: usize) -> usize
+    pub(crate) fn partition_plane_context(&self, bo: TileBlockOffset, level: usize) -> usize
         requires inside { bo.x < 1024 }
         requires level { level ≤ 3 }
         ensures value { result ≡ context_at self.now.above self.now.left bo.x bo.y level }
@@ -37,7 +37,7 @@ impl Contexts {
 }
 
 // The table of a square of side 8 × 2^`level` in a context.
-fn partition_table(level: usize, ctx: usize) -> Table
+pub(crate) fn partition_table(level: usize, ctx: usize) -> Table
     requires { (level ≤ 3) × (ctx ≤ 3) }
     ensures { table_of result ≡ partition_table level ctx }
 {

@@ -57,14 +57,14 @@ fn mv_step(precision: MvSubpelPrecision) -> u32
 
 // The tables of a component, which begin at word `base`.
 #[derive(Clone, Copy)]
-struct NMVComponent {
-    base: usize,
+pub(crate) struct NMVComponent {
+    pub(crate) base: usize,
     ghost one: { Component base },
 }
 
 impl NMVComponent {
     // The table of the integer part in class 0.
-    fn class0(self) -> Table
+    pub(crate) fn class0(self) -> Table
         ensures { table_of result ≡ table (self.base + 6) 2 }
     {
         Table {
@@ -74,7 +74,7 @@ impl NMVComponent {
     }
 
     // The table of the fraction.
-    fn fraction(self, class: usize, d: u32) -> Table
+    pub(crate) fn fraction(self, class: usize, d: u32) -> Table
         requires { class ≡ 0 → d < 2 }
         ensures { table_of result ≡ table (fraction_first self.base class d) 4 }
     {
@@ -87,7 +87,7 @@ impl NMVComponent {
     }
 
     // The table of the high bit.
-    fn high(self, class: usize) -> Table
+    pub(crate) fn high(self, class: usize) -> Table
         ensures { table_of result ≡ table (high_first self.base class) 2 }
     {
         let first = if class == 0 {
