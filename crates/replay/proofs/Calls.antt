@@ -17,9 +17,9 @@ abbrev seen : {A : Type 0} → (A → Answer) → Result A Refusal → Answered
 seen view r = result_map_both view (λ e. e) r
 
 -- what `map` promises, as an equation
-mapped : {A : Type 0} (view : A → Answer) (r : Result A Refusal) (b : Answered) {P : A → Answer → Type 0}
-    → MatchResult r (λ x. IsOkAnd b (P x)) (λ e. b ≡ Err e) → ((x : A) (y : Answer) → P x y → y ≡ view x) → b ≡ seen view r
-mapped view (Ok x) (Ok y) h same = ap (λ (y : Answer). Ok y) (same x y h)
+pub mapped : {A B E : Type 0} (view : A → B) (r : Result A E) (b : Result B E) {P : A → B → Type 0}
+    → MatchResult r (λ x. IsOkAnd b (P x)) (λ e. b ≡ Err e) → ((x : A) (y : B) → P x y → y ≡ view x) → b ≡ result_map_both view (λ e. e) r
+mapped view (Ok x) (Ok y) h same = ap Ok (same x y h)
 mapped view (Ok x) (Err e) h same = elim h [ ]
 mapped view (Err e) b h same = h
 

@@ -3,3 +3,4 @@ pub mod Playing
 pub mod Traces
 pub mod Units
 mod Noting
+pub mod Reading

@@ -50,7 +50,7 @@ module _ (memory : ℕ) (room : List Entry → ℕ) where
       ∙ ran_book cs (step stage memory room w (asking c)).world (noted b (asking c) (step stage memory room w (asking c)).answer)
 
 -- the standing calls by the answers are the model's
-standing_is : (memory : ℕ) (room : List Entry → ℕ) (from : State) (lent : Lent stage) (cs : List Call) {answers : List Answered}
+pub standing_is : (memory : ℕ) (room : List Entry → ℕ) (from : State) (lent : Lent stage) (cs : List Call) {answers : List Answered}
     → (ran memory room cs (fresh stage from lent)).answers ≡ answers
     → (run stage memory room (fresh stage from lent) (empty_book stage) (map asking cs)).book.standing ≡ standing cs answers
 standing_is memory room from lent cs told =

@@ -1,6 +1,6 @@
 -- Stages and readers with the same parts are the same: what they are sure of has one proof at most.
 use Rattle.std.proofs.Common.{◌≡◌, ℕ, ◌≤◌, length}
-use mathlib.Core.HLevel.{IsProp, is_prop→PathP}
+use mathlib.Core.HLevel.{is_prop→PathP}
 use native.Mathlib.Nat.{ℕ_set}
 use Rattle.std.proofs.Math.Bridge.{le_prop}
 use Rattle.stage.specs.declared.reader.Reader.{Reader}

@@ -1,0 +1,30 @@
+use Rattle.std.proofs.Common.{length, refl, rules}
+use Rattle.std.proofs.lemmas.Result.{err_from_is_err_and}
+use Rattle.av1.specs.declared.call.Call.TheVariants as call
+use Rattle.av1.specs.Partitions.{number}
+use Rattle.replay.proofs.Reading.{read_made, read_shown, read_turned}
+use Rattle.replay.proofs.read.read_call.Goals as goal
+
+pub returns-in-Partition-clause-step : goal.returns-in-Partition-clause-step
+returns-in-Partition-clause-step g c =
+    read_made _ number (λ p. record { call = call.Partition _ _ p; segment = 0 }) _ _ _ _ _ _ c.in-Partition.is c.map.ensures.cases (λ x y h. search rules) (λ x. refl) (c.read_partition.ensures.step c.args.map.now)
+
+pub returns-in-Skip-clause-step : goal.returns-in-Skip-clause-step
+returns-in-Skip-clause-step g c =
+    read_made _ (λ d. d) (λ d. record { call = call.Skip _ _ d; segment = 0 }) _ _ _ _ _ _ c.in-Skip.is c.map-in-Skip.ensures.cases (λ x y h. search rules) (λ x. refl) c.read_skip.ensures.step
+
+pub returns-in_ok-update_partition_context-in-ContextUpdate-clause-step : goal.returns-in_ok-update_partition_context-in-ContextUpdate-clause-step
+returns-in_ok-update_partition_context-in-ContextUpdate-clause-step g c =
+    read_shown _ _ _ _ _ tt (record { call = call.ContextUpdate _ _ _; segment = 0 }) c.in-ContextUpdate.is refl
+    (c.in_ok-update_partition_context-in-ContextUpdate.ensures.step c.args.map.now (g.Q.Source.list c.args.source.now) (g.Q.Source.place c.args.source.now))
+
+pub returns-in_err-update_partition_context-in-ContextUpdate-clause-step : goal.returns-in_err-update_partition_context-in-ContextUpdate-clause-step
+returns-in_err-update_partition_context-in-ContextUpdate-clause-step g c =
+    let p = err_from_is_err_and c.from_residual.result c.from_residual.ensures.1 in
+    rw (p.1, p.2)
+    (read_turned _ _ _ _ _ _ c.in-ContextUpdate.is
+    (c.in_err-update_partition_context-in-ContextUpdate.ensures.step c.args.map.now (g.Q.Source.list c.args.source.now) (g.Q.Source.place c.args.source.now)))
+
+pub returns-in-RowStart-clause-step : goal.returns-in-RowStart-clause-step
+returns-in-RowStart-clause-step g c =
+    read_shown _ _ _ _ _ tt (record { call = call.RowStart; segment = 0 }) c.in-RowStart.is refl (c.reset_left_contexts.ensures c.args.map.now (g.Q.Source.list c.args.source.now) (g.Q.Source.place c.args.source.now))
