@@ -6,6 +6,7 @@ use crate::state::Stage;
 mod cells;
 pub mod fault;
 mod partition;
+mod segment;
 mod skip;
 mod start;
 mod symbols;
