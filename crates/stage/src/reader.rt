@@ -3,6 +3,7 @@ ghost use Rattle.stage.specs.View.{open_trials};
 
 use crate::state::Stage;
 
+mod alphas;
 mod cells;
 pub mod fault;
 mod partition;
