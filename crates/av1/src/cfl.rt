@@ -1,4 +1,4 @@
-ghost use Rattle.std.specs.Prelude.{◌≡◌, ◌+◌, ◌<◌, ◌≤◌, IsTrue, [], ◌∷◌, is_some, IfSome, All, nat_lt};
+ghost use Rattle.std.specs.Prelude.{◌≡◌, ◌+◌, ◌/◌, ◌%◌, ◌<◌, ◌≤◌, IsTrue, [], ◌∷◌, is_some, IfSome, All, nat_lt};
 ghost use Rattle.av1.specs.Alphas.{sign_of, sign_number, alpha_context, alpha_at, alphas_allowed, joint_sign, coded_alpha};
 ghost use Rattle.av1.specs.Vectors.{magnitude, nonzero};
 
@@ -42,6 +42,19 @@ impl CFLSign {
             2 => Some(CFLSign::CFL_SIGN_POS),
             _ => None,
         }
+    }
+
+    /// The signs of u and v that a joint sign has.
+    pub fn from_joint(joint: usize) -> Option<(CFLSign, CFLSign)>
+        ensures listed { is_some result ≡ nat_lt joint 8 }
+        ensures signs { IfSome result (λ s. (sign_number s.0 ≡ (joint + 1) / 3) × (sign_number s.1 ≡ (joint + 1) % 3)) }
+    {
+        if joint >= 8 {
+            return None;
+        }
+        let u = CFLSign::from_number((joint + 1) / 3)?;
+        let v = CFLSign::from_number((joint + 1) % 3)?;
+        Some((u, v))
     }
 
     /// The context of an alpha of this sign beside one of the other; a zero has none.

@@ -7,6 +7,7 @@ mod Coding
 mod Contexts
 mod Partitions
 mod Places
+mod ReadAlphas
 mod ReadBlocks
 mod ReadCalls
 mod ReadPoints

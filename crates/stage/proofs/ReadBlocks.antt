@@ -11,6 +11,7 @@ use Rattle.av1.specs.Sizes.{no_side_above, splits}
 use Rattle.av1.specs.Tiles.{block_at, block_asked, no_cell}
 use Rattle.av1.specs.Tiles as tile
 use Rattle.cdf.specs.declared.entry.Entry.{Entry}
+use Rattle.cdf.specs.declared.tables.Tables.{Tables}
 use Rattle.cdf.specs.Lists.{Rising}
 use Rattle.cdf.specs.Words.{Words}
 use Rattle.cdf.proofs.Booleans.{true→T}
@@ -30,7 +31,8 @@ use Rattle.stage.specs.Cells.{change_each, changed, logged_cells}
 use Rattle.stage.specs.Reads.{OnlyTables, Point, Reads, ahead, block_set, told}
 use Rattle.stage.specs.View.{lane, refused_by, state_of}
 use Rattle.stage.proofs.Calls.{asked_block}
-use Rattle.stage.proofs.Cells.{cells_in, changes_world, put_cells, rising_block}
+use Rattle.stage.proofs.Cells.{changes_world, rising_block}
+use Rattle.stage.proofs.ReadPoints.{only_then}
 
 -- the model's answer to a decision that began at its point
 pub from_start : {D : Type 0} {start : ℕ} {t : Syntax D} {m n : Point} {r : Result D ReadFault} → Reads start t m n r → start ≡ m.place
@@ -141,3 +143,8 @@ block_read memory es q s p x y z b k d w rest next t u set questions asked given
 pub flag_same : (s : ℕ) → not (eqb s 0) ≡ flag_read s
 flag_same zero = refl
 flag_same (suc n) = ap not (ne_eqb (suc n) 0 (λ e. absurd (omega arith)))
+
+-- tables as they were make the state as it was
+pub back_state : (s t u : Stage) (memory : List Cell) → OnlyTables t s → OnlyTables u t → u.tables ≡ s.tables → state_of u memory ≡ state_of s memory
+back_state s t u memory k j same =
+    read_state u s memory (only_then j k) ∙ ap (λ (v : Tables). with_words (state_of s memory) v.words) same

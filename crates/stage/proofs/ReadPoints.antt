@@ -1,10 +1,11 @@
 -- Reading from one point to another: a symbol, one syntax after another, and the end of a decision.
 use Rattle.std.proofs.Common.{◌≡◌, ℕ, suc, ◌+◌, ◌-◌, ◌<◌, ◌≤◌, Bool, true, false, length, drop, Ok, Err, Result, sym, refl, ap, ◌∙◌, subst, add-one, arith}
 use Rattle.std.proofs.lemmas.Bool.{both_ways}
+use Rattle.av1.specs.declared.refusal.Refusal.{Refusal}
 use Rattle.cdf.specs.Words.{Table}
 use Rattle.model.specs.Coders.{Coder, after, coded_by, symbols, table_of}
 use Rattle.model.specs.Decisions.{partition_tree}
-use Rattle.model.specs.Tree.{Answer, Syntax, and_then, coded, done, read, read_as, read_by}
+use Rattle.model.specs.Tree.{Answer, Syntax, and_then, coded, done, faulty, never, read, read_as, read_by}
 use Rattle.model.proofs.Trees.{by_then}
 use Rattle.record.specs.declared.source.SourceFault.{SourceFault}
 use Rattle.record.specs.Sources.{next_answer, next_place}
@@ -13,8 +14,8 @@ use Rattle.stage.specs.declared.reader.fault.ReadFault.TheVariants as fault
 use Rattle.stage.specs.declared.reader.fault.SymbolFault.{SymbolFault}
 use Rattle.stage.specs.declared.state.Stage.{Stage}
 use Rattle.stage.specs.Faults.{fault_of}
-use Rattle.stage.specs.Reads.{OnlyTables, Point, Reads, Took, ahead, beside, told}
-use Rattle.stage.proofs.ReadTrees.{next_below, next_placed, next_read, place_read, read_stops, read_then, symbol_read}
+use Rattle.stage.specs.Reads.{OnlyTables, Point, Reads, Took, ahead, beside, symbol_tree, told}
+use Rattle.stage.proofs.ReadTrees.{next_below, next_placed, next_read, read_never, place_read, read_stops, read_then, symbol_read}
 
 pub only_same : {s : Stage} → OnlyTables s s
 only_same {s} = record { tile = refl; last = refl; contexts = refl; journal = refl }
@@ -120,3 +121,16 @@ pub partition_read : {start p : ℕ} {m n : Point} {r : Result ℕ ReadFault} (a
 partition_read {start} {p} {m} {n} {r} a b t rows cols at up along x =
     subst (λ i. Reads i (partition_tree a b t) m n r) at
     (subst (λ i. Reads start (partition_tree i b t) m n r) (sym up) (subst (λ i. Reads start (partition_tree rows i t) m n r) (sym along) x))
+
+-- a symbol that is given, and then refused; the source may have gone back
+pub refuses : {D : Type 0} {start s : ℕ} {k : Coder} {m n : Point} (g : ℕ → Syntax D) (why : Refusal) (f : ReadFault) (o : Point)
+    → Reads start (symbol_tree k) m n (Ok s) → g s ≡ never why
+    → fault_of f ≡ record { why = why; entry = m.place - start; table = (table_of k).first; place = m.place }
+    → o.list ≡ n.list → m.place ≤ o.place → OnlyTables o.stage n.stage → Reads start (coded k g) m o (Err f)
+refuses {D} {start} {s} {k} {m} {n} g why f o x refused same list on kept =
+    record {
+      answer = λ last. ap faulty same ∙ read_never D k g m.stage.tables.words start last m.place (ahead m) s n.stage.tables.words (ahead n) n.place why refused (x.answer last);
+      list = list ∙ x.list;
+      on = on;
+      kept = only_then kept x.kept;
+    }

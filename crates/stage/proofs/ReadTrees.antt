@@ -1,8 +1,9 @@
 -- What is read by one syntax and then another, and a symbol that is read by a coder.
-use Rattle.std.proofs.Common.{◌≡◌, ℕ, zero, suc, ◌+◌, ◌-◌, ◌*◌, ◌^◌, ◌<◌, ◌≤◌, Bool, true, false, cond, ◌&&◌, eqb, ltb, List, [], ◌∷◌, length, get_or, drop, Ok, Err, Result, sym, refl, ap, ◌∙◌, subst, add-one}
+use Rattle.std.proofs.Common.{◌≡◌, ℕ, zero, suc, ◌+◌, ◌-◌, ◌*◌, ◌^◌, ◌<◌, ◌≤◌, Bool, true, false, cond, ◌&&◌, eqb, ltb, List, [], ◌∷◌, length, get_or, drop, Ok, Err, Result, sym, refl, ap, ◌∙◌, subst, add-one, arith}
 use Rattle.std.proofs.lemmas.Bool.{and_parts, ltb-true, ltb-false}
 use Rattle.std.proofs.lemmas.List.{drop_all}
 use Rattle.std.proofs.Math.Seq.{drop-cons}
+use Rattle.av1.specs.declared.refusal.Refusal.{Refusal}
 use Rattle.av1.specs.declared.refusal.Refusal.TheVariants as no
 use Rattle.cdf.specs.declared.entry.Entry.{Entry}
 use Rattle.cdf.specs.Entries.{entry_fits}
@@ -112,3 +113,26 @@ next_below l p vs s h = go (ltb p (length l)) (entry_fits vs e) (λ t. ltb-true 
     go true true in_table k = let same : s ≡ e.s = cc in subst (λ n. n < length vs) (sym same) (in_table refl)
     go true false in_table k = cc
     go false b in_table k = cc
+
+-- a symbol that is given, and then refused
+pub read_never : (D : Type 0) (k : Coder) (g : ℕ → Syntax D) (w : Words) (start last p : ℕ) (es : List Entry) (s : ℕ) (v : Words) (rest : List Entry) (next : ℕ) (n : Refusal) → g s ≡ never n
+    → read_as s v rest next ≡ read w (coded k (λ s. done s)) start last p es
+    → faulty (record { why = n; entry = p - start; table = (table_of k).first; place = p }) ≡ read w (coded k g) start last p es
+read_never D k g w start last p [] s v rest next n no_more h = cc
+read_never D k g w start last p (e ∷ es) s v rest next n no_more h = go (fits w k e) h
+  where
+    unfit : Fault
+    unfit = record { why = no.EntryUnfit; entry = p - start; table = (table_of k).first; place = p }
+
+    here : suc p - 1 ≡ p
+    here = omega arith
+
+    told : (i : ℕ) → i ≡ p → ◌≡◌ {A = Answer D} (faulty (record { why = n; entry = p - start; table = (table_of k).first; place = p })) (faulty (record { why = n; entry = i - start; table = (table_of k).first; place = i }))
+    told i e = sym (ap (λ j. faulty (record { why = n; entry = j - start; table = (table_of k).first; place = j })) e)
+
+    go : (b : Bool) → ◌≡◌ {A = Answer ℕ} (read_as s v rest next) (elim b [ true ↦ read_as e.s (after w k e.s) es (suc p) | false ↦ faulty unfit ])
+        → ◌≡◌ {A = Answer D} (faulty (record { why = n; entry = p - start; table = (table_of k).first; place = p })) (elim b [ true ↦ read (after w k e.s) (g e.s) start (table_of k).first (suc p) es | false ↦ faulty unfit ])
+    go true i =
+        let same : s ≡ e.s = cc in
+        told (suc p - 1) here ∙ ap (λ (t : Syntax D). read (after w k e.s) t start (table_of k).first (suc p) es) (sym no_more ∙ ap g same)
+    go false i = cc

@@ -3,9 +3,11 @@ ghost use Rattle.stage.specs.View.{open_trials};
 
 use crate::state::Stage;
 
+mod alphas;
 mod cells;
 pub mod fault;
 mod partition;
+mod segment;
 mod skip;
 mod start;
 mod symbols;
