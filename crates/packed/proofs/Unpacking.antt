@@ -17,18 +17,18 @@ pub numbers_groups : (n : ℕ) (r : List ℕ) → n < 65536 → numbers (groups 
 numbers_groups n r h = ⊎_elim
     (λ small. let a = lt-ltb n 128 small in simp a)
     (λ big. let a = le-ltb n 128 big in
-      let b : ltb (128 + n % 128) 128 ≡ false = le-ltb (128 + n % 128) 128 (omega arith) in
-      ⊎_elim
-      (λ mid. let c = lt-ltb n 16384 mid in
-        let d : ltb (n / 128) 128 ≡ true = lt-ltb (n / 128) 128 (omega arith) in
-        let e : ((128 + n % 128) - 128) + 128 * (n / 128) ≡ n = omega arith in
-        simp (a, b, c, d, e))
-      (λ far. let c = le-ltb n 16384 far in
-        let d : ltb (128 + (n / 128) % 128) 128 ≡ false = le-ltb (128 + (n / 128) % 128) 128 (omega arith) in
-        let f : ltb (n / 16384) 128 ≡ true = lt-ltb (n / 16384) 128 (omega arith) in
-        let e : ((128 + n % 128) - 128) + 128 * (((128 + (n / 128) % 128) - 128) + 128 * (n / 16384)) ≡ n = omega arith in
-        simp (a, b, c, d, f, e))
-      (cases_lt n 16384))
+    let b : ltb (128 + n % 128) 128 ≡ false = le-ltb (128 + n % 128) 128 (omega arith) in
+    ⊎_elim
+    (λ mid. let c = lt-ltb n 16384 mid in
+    let d : ltb (n / 128) 128 ≡ true = lt-ltb (n / 128) 128 (omega arith) in
+    let e : ((128 + n % 128) - 128) + 128 * (n / 128) ≡ n = omega arith in
+    simp (a, b, c, d, e))
+    (λ far. let c = le-ltb n 16384 far in
+    let d : ltb (128 + (n / 128) % 128) 128 ≡ false = le-ltb (128 + (n / 128) % 128) 128 (omega arith) in
+    let f : ltb (n / 16384) 128 ≡ true = lt-ltb (n / 16384) 128 (omega arith) in
+    let e : ((128 + n % 128) - 128) + 128 * (((128 + (n / 128) % 128) - 128) + 128 * (n / 16384)) ≡ n = omega arith in
+    simp (a, b, c, d, f, e))
+    (cases_lt n 16384))
     (cases_lt n 128)
 
 -- one number stands at the front of some bytes at most

@@ -17,9 +17,9 @@ loop-i-preserved g c =
     let l : List Entry = g.S.Sink.list c.args.sink.now in
     let here : c.loop-i.i < length l = omega (arith, c.count-i-end.ensures) in
     elim c.match-entry.branch [
-      in-Ok w ↦ record {
+      | in-Ok w ↦ record {
         gone = rw w.bytes-is (w.push_entry.ensures.items ∙ ap (λ bs. bs ++ packed_entry w.in-Ok.e) c.loop-i.invariant.gone ∙ sym (one_packed l c.loop-i.i w.in-Ok.e here (sym c.entry.ensures ∙ w.in-Ok.is)));
         reserved = rw w.bytes-is (omega (arith, w.push_entry.ensures.capacity, c.loop-i.invariant.reserved));
       }
-    | in_default w ↦ absurd (w.in_default.not-Ok _ (c.entry.ensures ∙ entry_here l c.loop-i.i here))
+      | in_default w ↦ absurd (w.in_default.not-Ok _ (c.entry.ensures ∙ entry_here l c.loop-i.i here))
     ]
