@@ -227,8 +227,7 @@ fn no_bytes_are_a_source_at_its_end(rt: HostRuntime) {
 fn a_packed_source_answers_as_a_word_source(rt: HostRuntime) -> Result<(), Fail> {
     let mut words = WordRecord::new(rt.alloc(), 100)?;
     for (value, _) in LIMITS {
-        let fh = value.min(32768);
-        let _ = words.put(Entry { fh, ..SKIP });
+        let _ = words.put(Entry { fh: value, ..SKIP });
         let _ = words.put(Entry {
             s: 1,
             n: 2,
@@ -250,7 +249,7 @@ fn a_packed_source_answers_as_a_word_source(rt: HostRuntime) -> Result<(), Fail>
             None => 0,
         };
         if number % 8 == 0 {
-            let to = (number >> 3) as usize % (place + 2);
+            let to = (number >> 3) as usize % place.saturating_add(2);
             assert!(rt; one.back(to) == other.back(to), "back to {to}");
         } else {
             let table = [value ^ u16::from(number % 8 == 1), 0];
