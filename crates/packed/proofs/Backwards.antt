@@ -1,14 +1,14 @@
 -- Packed bytes gone back over: the last byte of each number, and no other, is below 128.
-use Rattle.std.proofs.Common.{◌≡◌, ◌≢◌, ℕ, zero, suc, ◌+◌, ◌-◌, ◌*◌, ◌/◌, ◌%◌, ◌<◌, ◌≤◌, ◌⊎◌, Bool, true, false, ◌&&◌, ltb, cond, List, [], ◌∷◌, ◌++◌, length, take, drop, get_or, sym, refl, ap, ◌∙◌, subst, ⊎_elim, arith, sub-one, add-one}
+use Rattle.std.proofs.Common.{◌≡◌, ℕ, ◌+◌, ◌-◌, ◌*◌, ◌/◌, ◌%◌, ◌<◌, ◌≤◌, Bool, true, false, ltb, cond, List, [], ◌∷◌, ◌++◌, length, take, get_or, sym, refl, ap, ◌∙◌, ⊎_elim, arith}
 use Rattle.std.specs.List.{list_all, count_by}
 use Rattle.std.proofs.lemmas.Bool.{cases_lt, lt-ltb, le-ltb, and_parts}
-use Rattle.std.proofs.lemmas.List.{append-nil, append_assoc, length-append, length_push, length-take-le, take_all, take-take, take_at, get_or-append_right, get_or-take, get_or_push}
+use Rattle.std.proofs.lemmas.List.{append-nil, length-append, length_push, length-take-le, take_all, take-take, take_at, get_or-append_right, get_or-take, get_or_push}
 use Rattle.std.proofs.lemmas.List.Sums.{sum_by-append, sum_by-take-le, count_by_more_yes}
 use Rattle.cdf.specs.declared.entry.Entry.{Entry}
 use Rattle.cdf.specs.Entries.{is_entry}
-use Rattle.packed.specs.Laws.{Small, small, short, entry_least}
+use Rattle.packed.specs.Laws.{small, short, entry_least}
 use Rattle.packed.specs.Packing.{groups, packed_entry, packed, unpacked, BeginsAt, Whole}
-use Rattle.packed.proofs.Unpacking.{packed_within, Holds}
+use Rattle.packed.proofs.Unpacking.{Holds}
 use Rattle.packed.proofs.Records.{here_front, here_within, all_take, cut_holds}
 
 abbrev pub is_last : ℕ → Bool

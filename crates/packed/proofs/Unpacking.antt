@@ -1,16 +1,14 @@
 -- Packed bytes read back: numbers, entries and lists of entries.
-use Rattle.std.proofs.Common.{Bor, MatchOption, Option, Some, None, Result, Ok, Err, ◌≡◌, ◌≢◌, ℕ, zero, suc, ◌+◌, ◌-◌, ◌*◌, ◌/◌, ◌%◌, ◌<◌, ◌≤◌, Bool, true, false, ◌&&◌, ltb, leb, List, [], ◌∷◌, ◌++◌, length, take, drop, get_or, sym, refl, ap, ◌∙◌, subst, ⊎_elim, arith}
+use Rattle.std.proofs.Common.{Bor, MatchOption, Some, Result, Ok, Err, ◌≡◌, ℕ, ◌+◌, ◌-◌, ◌*◌, ◌/◌, ◌%◌, ◌<◌, ◌≤◌, Bool, true, false, ltb, List, [], ◌∷◌, ◌++◌, length, take, drop, get_or, sym, refl, ap, ◌∙◌, ⊎_elim, arith}
 use Rattle.std.specs.Bool.{then_some}
 use Rattle.std.specs.List.{list_all}
 use Rattle.std.specs.Result.{OkIff, result_ok}
-use Rattle.std.proofs.lemmas.Bool.{cases_lt, lt-ltb, le-ltb, ltb-true, leb-true, and_parts, and_from, both_ways}
-use Rattle.std.proofs.lemmas.Bool.Decides.{nat_tests}
+use Rattle.std.proofs.lemmas.Bool.{cases_lt, lt-ltb, le-ltb, and_parts, both_ways}
 use Rattle.std.proofs.lemmas.List.{append-nil, append_assoc, append_cancel_left, length-append, take-append-drop, take_at, drop_at, take_more}
-use Rattle.std.proofs.lemmas.List.Folds.{list_all-append}
 use Rattle.cdf.specs.declared.entry.Entry.{Entry}
 use Rattle.cdf.specs.Entries.{is_entry}
-use Rattle.packed.specs.Laws.{Small, small, short, entry_length, entry_least, entry_most, packed_append, packed_push, packed_least}
-use Rattle.packed.specs.Packing.{groups, packed_entry, packed, under, numbers, entries_in, unpacked, NoNumber, NoEntry, Whole, FailsAt}
+use Rattle.packed.specs.Laws.{small, packed_append, packed_push}
+use Rattle.packed.specs.Packing.{groups, packed_entry, packed, numbers, entries_in, unpacked, NoNumber, NoEntry, Whole}
 
 -- a number that is read back as it was packed
 pub numbers_groups : (n : ℕ) (r : List ℕ) → n < 65536 → numbers (groups n ++ r) ≡ n ∷ numbers r

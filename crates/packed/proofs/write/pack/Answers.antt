@@ -1,7 +1,6 @@
-use Rattle.std.proofs.Common.{rules, ◌≡◌, ◌+◌, ◌≤◌, ◌<◌, ◌++◌, length, take, List, vec_len, vec_capacity, ap, sym, ◌∙◌, arith, Ok}
-use Rattle.std.proofs.lemmas.Bool.{lt-ltb}
+use Rattle.std.proofs.Common.{◌<◌, ◌++◌, length, List, ap, sym, ◌∙◌, arith}
 use Rattle.cdf.specs.declared.entry.Entry.{Entry}
-use Rattle.packed.specs.Packing.{packed_entry, packed}
+use Rattle.packed.specs.Packing.{packed_entry}
 use Rattle.packed.proofs.Packs.{entry_here, one_packed, one_fits}
 use Rattle.packed.proofs.write.pack.Goals as goal
 use Rattle.packed.proofs.write.pack.Goals.{in-Ok, in_default}

@@ -1,5 +1,4 @@
-use Rattle.std.proofs.Common.{rules, ◌-◌, ◌≤◌, length, arith}
-use Rattle.packed.specs.Packing.{unpacked}
+use Rattle.std.proofs.Common.{arith}
 use Rattle.packed.proofs.Backwards.{before_here, counted_before, back_begins}
 use Rattle.packed.proofs.Records.{here_within}
 use Rattle.packed.proofs.packed_source.PackedSourceSource.back.Goals as goal
