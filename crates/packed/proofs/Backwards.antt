@@ -1,14 +1,14 @@
 -- Packed bytes gone back over: the last byte of each number, and no other, is below 128.
-use Rattle.std.proofs.Common.{◌≡◌, ◌≢◌, ℕ, zero, suc, ◌+◌, ◌-◌, ◌*◌, ◌/◌, ◌%◌, ◌<◌, ◌≤◌, ◌⊎◌, Bool, true, false, ◌&&◌, ltb, cond, List, [], ◌∷◌, ◌++◌, length, take, drop, get_or, sym, refl, ap, ◌∙◌, subst, ⊎_elim, arith, sub-one, add-one}
+use Rattle.std.proofs.Common.{◌≡◌, ℕ, ◌+◌, ◌-◌, ◌*◌, ◌/◌, ◌%◌, ◌<◌, ◌≤◌, Bool, true, false, ltb, cond, List, [], ◌∷◌, ◌++◌, length, take, get_or, sym, refl, ap, ◌∙◌, ⊎_elim, arith}
 use Rattle.std.specs.List.{list_all, count_by}
 use Rattle.std.proofs.lemmas.Bool.{cases_lt, lt-ltb, le-ltb, and_parts}
-use Rattle.std.proofs.lemmas.List.{append-nil, append_assoc, length-append, length_push, length-take-le, take_all, take-take, take_at, get_or-append_right, get_or-take, get_or_push}
+use Rattle.std.proofs.lemmas.List.{append-nil, length-append, length_push, length-take-le, take_all, take-take, take_at, get_or-append_right, get_or-take, get_or_push}
 use Rattle.std.proofs.lemmas.List.Sums.{sum_by-append, sum_by-take-le, count_by_more_yes}
 use Rattle.cdf.specs.declared.entry.Entry.{Entry}
 use Rattle.cdf.specs.Entries.{is_entry}
-use Rattle.packed.specs.Laws.{Small, small, short, entry_least}
+use Rattle.packed.specs.Laws.{small, short, entry_least}
 use Rattle.packed.specs.Packing.{groups, packed_entry, packed, unpacked, BeginsAt, Whole}
-use Rattle.packed.proofs.Unpacking.{packed_within, Holds}
+use Rattle.packed.proofs.Unpacking.{Holds}
 use Rattle.packed.proofs.Records.{here_front, here_within, all_take, cut_holds}
 
 abbrev pub is_last : ℕ → Bool
@@ -30,18 +30,18 @@ ends_once : (n : ℕ) → n < 65536 → EndsOnce n
 ends_once n h = ⊎_elim
     (λ low. let a = lt-ltb n 128 low in record { once = simp a; last = simp a low })
     (λ big. let a = le-ltb n 128 big in
-      let b : ltb (128 + n % 128) 128 ≡ false = le-ltb (128 + n % 128) 128 (omega arith) in
-      ⊎_elim
-      (λ mid. let c = lt-ltb n 16384 mid in
-        let y : n / 128 < 128 = omega arith in
-        let d = lt-ltb (n / 128) 128 y in
-        record { once = simp (a, b, c, d); last = simp (a, c) y })
-      (λ far. let c = le-ltb n 16384 far in
-        let d : ltb (128 + (n / 128) % 128) 128 ≡ false = le-ltb (128 + (n / 128) % 128) 128 (omega arith) in
-        let z : n / 16384 < 128 = omega arith in
-        let f = lt-ltb (n / 16384) 128 z in
-        record { once = simp (a, b, c, d, f); last = simp (a, c) z })
-      (cases_lt n 16384))
+    let b : ltb (128 + n % 128) 128 ≡ false = le-ltb (128 + n % 128) 128 (omega arith) in
+    ⊎_elim
+    (λ mid. let c = lt-ltb n 16384 mid in
+    let y : n / 128 < 128 = omega arith in
+    let d = lt-ltb (n / 128) 128 y in
+    record { once = simp (a, b, c, d); last = simp (a, c) y })
+    (λ far. let c = le-ltb n 16384 far in
+    let d : ltb (128 + (n / 128) % 128) 128 ≡ false = le-ltb (128 + (n / 128) % 128) 128 (omega arith) in
+    let z : n / 16384 < 128 = omega arith in
+    let f = lt-ltb (n / 16384) 128 z in
+    record { once = simp (a, b, c, d, f); last = simp (a, c) z })
+    (cases_lt n 16384))
     (cases_lt n 128)
 
 lasts_entry : (e : Entry) → is_entry e ≡ true → lasts (packed_entry e) ≡ 4
@@ -149,13 +149,13 @@ same_place bs p at w le some within last left =
     let x_left : lasts (take x bs) ≡ 4 * p = ap lasts front ∙ lasts_packed (take p l) entries ∙ ap (λ n. 4 * n) (length-take-le p l le) in
     let not_later : x < at → ⊥ = λ (h : x < at). let m = one_before bs x at h within last in omega (arith, m, left, x_left) in
     let not_sooner : at < x → ⊥ = λ (h : at < x).
-        let p_some : 0 < p = ⊎_elim (λ (y : 0 < p). y) (λ (z : p ≤ 0). let none : p ≡ 0 = omega arith in let nothing : x ≡ 0 = ap (λ k. length (packed (take k l))) none in absurd (omega (arith, nothing))) (cases_lt 0 p) in
-        let l_some : 0 < length (take p l) = omega (arith, length-take-le p l le) in
-        let x_last : last_of (take x bs) < 128 = rw front (last_packed (take p l) entries l_some) in
-        let long = length-take-le x bs x_within in
-        let byte : last_of (take x bs) ≡ get_or bs (x - 1) 0 = ap (λ k. get_or (take x bs) (k - 1) 0) long ∙ get_or-take x bs (x - 1) 0 (omega arith) in
-        let m = one_before bs at x h x_within (omega (arith, byte, x_last)) in
-        omega (arith, m, left, x_left) in
+    let p_some : 0 < p = ⊎_elim (λ (y : 0 < p). y) (λ (z : p ≤ 0). let none : p ≡ 0 = omega arith in let nothing : x ≡ 0 = ap (λ k. length (packed (take k l))) none in absurd (omega (arith, nothing))) (cases_lt 0 p) in
+    let l_some : 0 < length (take p l) = omega (arith, length-take-le p l le) in
+    let x_last : last_of (take x bs) < 128 = rw front (last_packed (take p l) entries l_some) in
+    let long = length-take-le x bs x_within in
+    let byte : last_of (take x bs) ≡ get_or bs (x - 1) 0 = ap (λ k. get_or (take x bs) (k - 1) 0) long ∙ get_or-take x bs (x - 1) 0 (omega arith) in
+    let m = one_before bs at x h x_within (omega (arith, byte, x_last)) in
+    omega (arith, m, left, x_left) in
     record {
       inside = le;
       start = ⊎_elim (λ (h : at < x). absurd (not_sooner h)) (λ (h : x ≤ at). ⊎_elim (λ (k : x < at). absurd (not_later k)) (λ (k : at ≤ x). let e : at ≡ x = omega arith in e) (cases_lt x at)) (cases_lt at x);
@@ -167,7 +167,7 @@ stop_at_a_last bs front rest b n numbers w le x none e h =
     let long = ap length e ∙ length_push rest b in
     let some : 0 < length front = omega (arith, long) in
     let byte : get_or bs (length front - 1) 0 ≡ b =
-        sym (get_or-take (length front) bs (length front - 1) 0 (omega arith)) ∙ ap (λ m. get_or m (length front - 1) 0) (sym x.prefix ∙ e) ∙ get_or_push rest b 0 (length front - 1) (omega (arith, long)) in
+    sym (get_or-take (length front) bs (length front - 1) 0 (omega arith)) ∙ ap (λ m. get_or m (length front - 1) 0) (sym x.prefix ∙ e) ∙ get_or_push rest b 0 (length front - 1) (omega (arith, long)) in
     let left : lasts (take (length front) bs) ≡ 4 * p = ap lasts (sym x.prefix) ∙ omega (arith, x.left, none) in
     same_place bs p (length front) w (omega arith) some x.within (omega (arith, byte, h)) left
 

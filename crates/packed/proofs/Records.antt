@@ -1,8 +1,8 @@
 -- The packed record.
-use Rattle.std.proofs.Common.{◌≡◌, ◌≢◌, ℕ, zero, suc, ◌+◌, ◌-◌, ◌*◌, ◌/◌, ◌<◌, ◌≤◌, Bool, true, false, ◌&&◌, ltb, leb, cond, Option, Some, None, Result, Ok, Err, List, [], ◌∷◌, ◌++◌, length, take, drop, get_or, sym, refl, ap, ◌∙◌, subst, ⊎_elim, arith, sub-one, add-one, add-zero}
+use Rattle.std.proofs.Common.{◌≡◌, ℕ, zero, suc, ◌+◌, ◌-◌, ◌<◌, ◌≤◌, true, false, leb, cond, Option, Some, None, Ok, Err, List, [], ◌∷◌, ◌++◌, length, take, drop, get_or, sym, refl, ap, ◌∙◌, ⊎_elim, arith, add-zero}
 use Rattle.std.specs.List.{list_all}
-use Rattle.std.proofs.lemmas.Bool.{cases_lt, lt-ltb, le-ltb, le-leb, lt-leb, leb-true, and_parts, and_from, both_ways, true_from_ne_false}
-use Rattle.std.proofs.lemmas.List.{append-nil, append_assoc, length-append, length_push, length-drop, length-take-le, take-append-drop, take_more, drop_more, get_or-drop, take_rest}
+use Rattle.std.proofs.lemmas.Bool.{cases_lt, lt-ltb, le-ltb, le-leb, lt-leb, leb-true, and_parts, both_ways, true_from_ne_false}
+use Rattle.std.proofs.lemmas.List.{length-append, length-drop, take-append-drop, drop_more, get_or-drop, take_rest}
 use Rattle.std.proofs.lemmas.List.Folds.{list_all-append, list_all_at}
 use Rattle.std.proofs.lemmas.Option.{cond_some}
 use Rattle.av1.specs.declared.refusal.Refusal.TheVariants as no
@@ -13,7 +13,7 @@ use Rattle.record.specs.Sources.{next_answer, next_place}
 use Rattle.record.specs.declared.source.SourceFault.TheVariants as fault
 use Rattle.packed.specs.Packing.{packed_entry, packed, unpacked, ends_from, BeginsAt, NoEntry, Whole}
 use Rattle.packed.proofs.Unpacking.{unpacked_entry, unpacked_packed, packed_more, packed_within, take_packed, drop_packed, holds, Holds}
-use Rattle.packed.specs.Laws.{entry_most, entry_least, packed_push, packed_least, packed_append}
+use Rattle.packed.specs.Laws.{packed_push}
 use Rattle.packed.proofs.Checking.{all_push}
 
 -- the ends of entries

@@ -1,34 +1,32 @@
 -- Packed bytes read back: numbers, entries and lists of entries.
-use Rattle.std.proofs.Common.{Bor, MatchOption, Option, Some, None, Result, Ok, Err, ◌≡◌, ◌≢◌, ℕ, zero, suc, ◌+◌, ◌-◌, ◌*◌, ◌/◌, ◌%◌, ◌<◌, ◌≤◌, Bool, true, false, ◌&&◌, ltb, leb, List, [], ◌∷◌, ◌++◌, length, take, drop, get_or, sym, refl, ap, ◌∙◌, subst, ⊎_elim, arith}
+use Rattle.std.proofs.Common.{Bor, MatchOption, Some, Result, Ok, Err, ◌≡◌, ℕ, ◌+◌, ◌-◌, ◌*◌, ◌/◌, ◌%◌, ◌<◌, ◌≤◌, Bool, true, false, ltb, List, [], ◌∷◌, ◌++◌, length, take, drop, get_or, sym, refl, ap, ◌∙◌, ⊎_elim, arith}
 use Rattle.std.specs.Bool.{then_some}
 use Rattle.std.specs.List.{list_all}
 use Rattle.std.specs.Result.{OkIff, result_ok}
-use Rattle.std.proofs.lemmas.Bool.{cases_lt, lt-ltb, le-ltb, ltb-true, leb-true, and_parts, and_from, both_ways}
-use Rattle.std.proofs.lemmas.Bool.Decides.{nat_tests}
+use Rattle.std.proofs.lemmas.Bool.{cases_lt, lt-ltb, le-ltb, and_parts, both_ways}
 use Rattle.std.proofs.lemmas.List.{append-nil, append_assoc, append_cancel_left, length-append, take-append-drop, take_at, drop_at, take_more}
-use Rattle.std.proofs.lemmas.List.Folds.{list_all-append}
 use Rattle.cdf.specs.declared.entry.Entry.{Entry}
 use Rattle.cdf.specs.Entries.{is_entry}
-use Rattle.packed.specs.Laws.{Small, small, short, entry_length, entry_least, entry_most, packed_append, packed_push, packed_least}
-use Rattle.packed.specs.Packing.{groups, packed_entry, packed, under, numbers, entries_in, unpacked, NoNumber, NoEntry, Whole, FailsAt}
+use Rattle.packed.specs.Laws.{small, packed_append, packed_push}
+use Rattle.packed.specs.Packing.{groups, packed_entry, packed, numbers, entries_in, unpacked, NoNumber, NoEntry, Whole}
 
 -- a number that is read back as it was packed
 pub numbers_groups : (n : ℕ) (r : List ℕ) → n < 65536 → numbers (groups n ++ r) ≡ n ∷ numbers r
 numbers_groups n r h = ⊎_elim
     (λ small. let a = lt-ltb n 128 small in simp a)
     (λ big. let a = le-ltb n 128 big in
-      let b : ltb (128 + n % 128) 128 ≡ false = le-ltb (128 + n % 128) 128 (omega arith) in
-      ⊎_elim
-      (λ mid. let c = lt-ltb n 16384 mid in
-        let d : ltb (n / 128) 128 ≡ true = lt-ltb (n / 128) 128 (omega arith) in
-        let e : ((128 + n % 128) - 128) + 128 * (n / 128) ≡ n = omega arith in
-        simp (a, b, c, d, e))
-      (λ far. let c = le-ltb n 16384 far in
-        let d : ltb (128 + (n / 128) % 128) 128 ≡ false = le-ltb (128 + (n / 128) % 128) 128 (omega arith) in
-        let f : ltb (n / 16384) 128 ≡ true = lt-ltb (n / 16384) 128 (omega arith) in
-        let e : ((128 + n % 128) - 128) + 128 * (((128 + (n / 128) % 128) - 128) + 128 * (n / 16384)) ≡ n = omega arith in
-        simp (a, b, c, d, f, e))
-      (cases_lt n 16384))
+    let b : ltb (128 + n % 128) 128 ≡ false = le-ltb (128 + n % 128) 128 (omega arith) in
+    ⊎_elim
+    (λ mid. let c = lt-ltb n 16384 mid in
+    let d : ltb (n / 128) 128 ≡ true = lt-ltb (n / 128) 128 (omega arith) in
+    let e : ((128 + n % 128) - 128) + 128 * (n / 128) ≡ n = omega arith in
+    simp (a, b, c, d, e))
+    (λ far. let c = le-ltb n 16384 far in
+    let d : ltb (128 + (n / 128) % 128) 128 ≡ false = le-ltb (128 + (n / 128) % 128) 128 (omega arith) in
+    let f : ltb (n / 16384) 128 ≡ true = lt-ltb (n / 16384) 128 (omega arith) in
+    let e : ((128 + n % 128) - 128) + 128 * (((128 + (n / 128) % 128) - 128) + 128 * (n / 16384)) ≡ n = omega arith in
+    simp (a, b, c, d, f, e))
+    (cases_lt n 16384))
     (cases_lt n 128)
 
 -- one number stands at the front of some bytes at most

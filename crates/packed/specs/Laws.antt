@@ -1,5 +1,5 @@
 -- That a packed record owes what every sink owes. Only the last statement is cited by code; the others serve proofs.
-use Rattle.std.specs.Prelude.{◌≡◌, ℕ, ◌+◌, ◌-◌, ◌*◌, ◌/◌, ◌<◌, ◌≤◌, true, ◌&&◌, List, [], ◌∷◌, ◌++◌, length, refl}
+use Rattle.std.specs.Prelude.{◌≡◌, ℕ, ◌+◌, ◌-◌, ◌*◌, ◌/◌, ◌<◌, ◌≤◌, true, List, [], ◌∷◌, ◌++◌, length, refl}
 use Rattle.std.proofs.Common.{ltb, leb, sym, ap, ◌∙◌, ⊎_elim, arith}
 use Rattle.std.proofs.lemmas.Bool.{cases_lt, lt-ltb, le-ltb, ltb-true, leb-true, and_parts}
 use Rattle.std.proofs.lemmas.List.{append-nil, append_assoc, length-append}
@@ -18,10 +18,10 @@ pub short : (n : ℕ) → Short n
 short n = ⊎_elim
     (λ small. let a = lt-ltb n 128 small in record { least = simp a (omega arith); most = simp a (omega arith); one = λ h. simp a })
     (λ big. let a = le-ltb n 128 big in
-      ⊎_elim
-      (λ mid. let c = lt-ltb n 16384 mid in record { least = simp (a, c) (omega arith); most = simp (a, c) (omega arith); one = λ h. absurd (omega arith) })
-      (λ far. let c = le-ltb n 16384 far in record { least = simp (a, c) (omega arith); most = simp (a, c) (omega arith); one = λ h. absurd (omega arith) })
-      (cases_lt n 16384))
+    ⊎_elim
+    (λ mid. let c = lt-ltb n 16384 mid in record { least = simp (a, c) (omega arith); most = simp (a, c) (omega arith); one = λ h. absurd (omega arith) })
+    (λ far. let c = le-ltb n 16384 far in record { least = simp (a, c) (omega arith); most = simp (a, c) (omega arith); one = λ h. absurd (omega arith) })
+    (cases_lt n 16384))
     (cases_lt n 128)
 
 -- the numbers of an entry are small

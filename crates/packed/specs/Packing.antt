@@ -2,6 +2,8 @@
 -- set on all but the last group, as few groups as go.
 use Rattle.std.specs.Prelude.{◌≡◌, ℕ, ◌+◌, ◌-◌, ◌*◌, ◌/◌, ◌%◌, ◌<◌, ◌≤◌, ◌≢◌, true, cond, List, [], ◌∷◌, ◌++◌, length, take, drop, nat_lt}
 use Rattle.std.specs.List.{list_all}
+use Rattle.av1.specs.declared.refusal.Refusal.{Refusal}
+use Rattle.av1.specs.declared.refusal.Refusal.TheVariants as no
 use Rattle.cdf.specs.declared.entry.Entry.{Entry}
 use Rattle.cdf.specs.Entries.{is_entry}
 
@@ -56,6 +58,10 @@ pub record FailsAt (bs : List ℕ) (at : ℕ) : Type 0 where
   pub inside : at < length bs
   pub before : Whole (take at bs)
   pub none : NoEntry (drop at bs)
+
+-- the refusal of bytes that are no whole entries: it names where they fail
+abbrev pub Refused : List ℕ → Refusal → Type 0
+Refused bs why = (at : ℕ) × (why ≡ no.NotPacked at) × FailsAt bs at
 
 -- entry i of whole bytes begins at a byte; where i is the number of entries, the bytes end there
 pub record BeginsAt (bs : List ℕ) (i at : ℕ) : Type 0 where

@@ -41,3 +41,6 @@ pub fn bytes_fail_once()
 pub fn worked_examples()
     ensures { Worked }
 {}
+
+#[cfg(test)]
+mod tests;

@@ -1,9 +1,8 @@
-ghost use Rattle.std.specs.Prelude.{◌≡◌, ℕ, ◌-◌, ◌≤◌, true, List, length, take, is_ok, MatchResult};
+ghost use Rattle.std.specs.Prelude.{◌≡◌, ◌-◌, ◌≤◌, true, List, length, take, is_ok, MatchResult};
 ghost use Rattle.std.specs.List.{list_all};
-ghost use Rattle.av1.specs.declared.refusal.Refusal.TheVariants as no;
 ghost use Rattle.cdf.specs.declared.entry.Entry.{Entry};
 ghost use Rattle.cdf.specs.Entries.{is_entry};
-ghost use Rattle.packed.specs.Packing.{packed, unpacked, BeginsAt, Whole, FailsAt};
+ghost use Rattle.packed.specs.Packing.{packed, unpacked, BeginsAt, Whole, Refused};
 
 use crate::read::{count_entries, split_entry};
 use av1::Refusal;
@@ -24,7 +23,7 @@ pub struct PackedSource<'a> {
 impl<'a> PackedSource<'a> {
     /// A source of these bytes, at the first entry, if they are packed entries.
     pub fn new(bytes: &'a [u8]) -> Result<PackedSource<'a>, Refusal>
-        ensures value { MatchResult result (λ s. (s.bytes.now ≡ bytes.now) × (s.place ≡ 0)) (λ why. (at : ℕ) × (why ≡ no.NotPacked at) × FailsAt bytes.now at) }
+        ensures value { MatchResult result (λ s. (s.bytes.now ≡ bytes.now) × (s.place ≡ 0) × Whole bytes.now) (Refused bytes.now) }
         ensures packings { (l : List Entry) → list_all is_entry l ≡ true → bytes.now ≡ packed l → is_ok result ≡ true }
     {
         count_entries(bytes)?;
@@ -40,8 +39,7 @@ impl<'a> PackedSource<'a> {
 fn start_of_last(bytes: &[u8], n: usize) -> usize
     requires whole { Whole bytes.now }
     requires inside { n ≤ length (unpacked bytes.now) }
-    ensures start { BeginsAt bytes.now (length (unpacked bytes.now) - n) result }
-    ensures within { result ≤ length bytes.now }
+    ensures { BeginsAt bytes.now (length (unpacked bytes.now) - n) result }
 {
     let mut numbers = 4 * n;
     let mut front = bytes;

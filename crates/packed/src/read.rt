@@ -1,9 +1,8 @@
-ghost use Rattle.std.specs.Prelude.{◌≡◌, ◌<◌, ◌++◌, ℕ, true, List, length, is_ok, MatchOption, MatchResult};
+ghost use Rattle.std.specs.Prelude.{◌≡◌, ◌<◌, ◌++◌, true, List, length, is_ok, MatchOption, MatchResult};
 ghost use Rattle.std.specs.List.{list_all};
-ghost use Rattle.av1.specs.declared.refusal.Refusal.TheVariants as no;
 ghost use Rattle.cdf.specs.declared.entry.Entry.{Entry};
 ghost use Rattle.cdf.specs.Entries.{is_entry};
-ghost use Rattle.packed.specs.Packing.{groups, packed_entry, packed, unpacked, NoNumber, NoEntry, Whole, FailsAt};
+ghost use Rattle.packed.specs.Packing.{groups, packed_entry, packed, unpacked, NoNumber, NoEntry, Whole, Refused};
 
 use av1::Refusal;
 use cdf::Entry;
@@ -41,7 +40,7 @@ pub fn split_entry(bytes: &[u8]) -> Option<(Entry, &[u8])>
 
 /// How many entries some bytes are, or where the first one begins that is none.
 pub fn count_entries(bytes: &[u8]) -> Result<usize, Refusal>
-    ensures value { MatchResult result (λ k. Whole bytes.now × (k ≡ length (unpacked bytes.now))) (λ why. (at : ℕ) × (why ≡ no.NotPacked at) × FailsAt bytes.now at) }
+    ensures value { MatchResult result (λ k. Whole bytes.now × (k ≡ length (unpacked bytes.now))) (Refused bytes.now) }
     ensures packings { (l : List Entry) → list_all is_entry l ≡ true → bytes.now ≡ packed l → is_ok result ≡ true }
 {
     let mut rest = bytes;

@@ -21,11 +21,11 @@ loop-byte-preserved-else-numbers-eq0 c =
     let more : 0 < c.loop-byte.numbers = omega (arith, c.if-numbers-eq0.false) in
     over_a_last c.args.bytes.now c.loop-byte.front.now c.in-Some.rest.now c.in-Some.byte.now (length (unpacked c.args.bytes.now) - c.args.n) c.loop-byte.numbers c.loop-byte.invariant c.in-Some.ensures.cases.0 c.if-byte-lt128.true more
 
-pub returns-then-numbers-eq0-clause-start : goal.returns-then-numbers-eq0-clause-start
-returns-then-numbers-eq0-clause-start c =
+pub returns-then-numbers-eq0 : goal.returns-then-numbers-eq0
+returns-then-numbers-eq0 c =
     stop_at_a_last c.args.bytes.now c.loop-byte.front.now c.in-Some.rest.now c.in-Some.byte.now c.args.n c.loop-byte.numbers c.requires.whole c.requires.inside c.loop-byte.invariant c.if-numbers-eq0.true c.in-Some.ensures.cases.0 c.if-byte-lt128.true
 
-pub returns-clause-start : goal.returns-clause-start
-returns-clause-start c =
+pub returns : goal.returns
+returns c =
     let none : c.loop-byte.front.now ≡ [] = nil_from_length c.loop-byte.front.now c.in_default.ensures.cases in
     stop_at_the_front c.args.bytes.now c.args.n c.loop-byte.numbers (rw none at c.loop-byte.invariant)

@@ -1,6 +1,5 @@
-use Rattle.std.proofs.Common.{rules, ◌≡◌, ◌<◌, List, [], length, arith, refl, ◌-◌}
+use Rattle.std.proofs.Common.{rules, ◌≡◌, ◌<◌, [], length, refl, ◌-◌}
 use Rattle.std.proofs.lemmas.List.{nil_from_length}
-use Rattle.packed.specs.Packing.{NoEntry, FailsAt}
 use Rattle.packed.proofs.Checking.{one_more, fewer, count_fits, all_gone, fails, packed_passes}
 use Rattle.packed.proofs.read.count_entries.Goals as goal
 

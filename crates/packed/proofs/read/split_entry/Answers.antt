@@ -1,5 +1,4 @@
-use Rattle.std.proofs.Common.{rules, ◌≡◌, ◌++◌, ℕ, true, List, arith}
-use Rattle.packed.proofs.Unpacking.{no_fourth, an_entry, found, same_byte}
+use Rattle.packed.proofs.Unpacking.{no_fourth, found, same_byte}
 use Rattle.packed.proofs.read.split_entry.Goals as goal
 
 pub returns-in_err-fh : goal.returns-in_err-fh

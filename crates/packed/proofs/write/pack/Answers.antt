@@ -1,7 +1,6 @@
-use Rattle.std.proofs.Common.{rules, ◌≡◌, ◌+◌, ◌≤◌, ◌<◌, ◌++◌, length, take, List, vec_len, vec_capacity, ap, sym, ◌∙◌, arith, Ok}
-use Rattle.std.proofs.lemmas.Bool.{lt-ltb}
+use Rattle.std.proofs.Common.{◌<◌, ◌++◌, length, List, ap, sym, ◌∙◌, arith}
 use Rattle.cdf.specs.declared.entry.Entry.{Entry}
-use Rattle.packed.specs.Packing.{packed_entry, packed}
+use Rattle.packed.specs.Packing.{packed_entry}
 use Rattle.packed.proofs.Packs.{entry_here, one_packed, one_fits}
 use Rattle.packed.proofs.write.pack.Goals as goal
 use Rattle.packed.proofs.write.pack.Goals.{in-Ok, in_default}
@@ -17,9 +16,9 @@ loop-i-preserved g c =
     let l : List Entry = g.S.Sink.list c.args.sink.now in
     let here : c.loop-i.i < length l = omega (arith, c.count-i-end.ensures) in
     elim c.match-entry.branch [
-      in-Ok w ↦ record {
+      | in-Ok w ↦ record {
         gone = rw w.bytes-is (w.push_entry.ensures.items ∙ ap (λ bs. bs ++ packed_entry w.in-Ok.e) c.loop-i.invariant.gone ∙ sym (one_packed l c.loop-i.i w.in-Ok.e here (sym c.entry.ensures ∙ w.in-Ok.is)));
         reserved = rw w.bytes-is (omega (arith, w.push_entry.ensures.capacity, c.loop-i.invariant.reserved));
       }
-    | in_default w ↦ absurd (w.in_default.not-Ok _ (c.entry.ensures ∙ entry_here l c.loop-i.i here))
+      | in_default w ↦ absurd (w.in_default.not-Ok _ (c.entry.ensures ∙ entry_here l c.loop-i.i here))
     ]

@@ -1,4 +1,4 @@
-use Rattle.std.proofs.Common.{rules, ◌≡◌, suc, length, sym, ap, ◌∙◌, arith}
+use Rattle.std.proofs.Common.{◌≡◌, suc, length, ap, ◌∙◌, arith}
 use Rattle.packed.specs.Packing.{unpacked}
 use Rattle.packed.proofs.Records.{length-ends, end_at_0, end_past, end_there, here_from_end, here_within}
 use Rattle.packed.proofs.packed_record.PackedRecord.end.Goals as goal

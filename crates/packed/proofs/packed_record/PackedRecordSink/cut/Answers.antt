@@ -1,5 +1,5 @@
-use Rattle.std.proofs.Common.{rules, ◌≡◌, sym, ap, ◌∙◌, arith, length, take}
-use Rattle.packed.proofs.Records.{here_from_end, here_within, cut_holds, cut_ends, cut_list_is}
+use Rattle.std.proofs.Common.{sym, ◌∙◌, arith}
+use Rattle.packed.proofs.Records.{here_from_end, cut_holds, cut_ends, cut_list_is}
 use Rattle.packed.specs.Packing.{unpacked}
 use Rattle.packed.proofs.packed_record.PackedRecordSink.cut.Goals as goal
 

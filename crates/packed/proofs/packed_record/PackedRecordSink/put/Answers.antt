@@ -1,4 +1,4 @@
-use Rattle.std.proofs.Common.{rules, ◌≡◌, ◌+◌, ◌-◌, ◌/◌, ◌≤◌, true, sym, ap, ◌∙◌, ◌++◌, ◌∷◌, [], arith, length}
+use Rattle.std.proofs.Common.{rules, ◌≡◌, ◌-◌, ◌/◌, true, ap, ◌∙◌, ◌++◌, ◌∷◌, [], arith, length}
 use Rattle.std.proofs.lemmas.List.{length-append}
 use Rattle.cdf.specs.Entries.{is_entry}
 use Rattle.packed.specs.Laws.{entry_most, packed_least}

@@ -1,5 +1,4 @@
-use Rattle.std.proofs.Common.{rules, ◌-◌, ◌≤◌, length, arith}
-use Rattle.packed.specs.Packing.{unpacked}
+use Rattle.std.proofs.Common.{arith}
 use Rattle.packed.proofs.Backwards.{before_here, counted_before, back_begins}
 use Rattle.packed.proofs.Records.{here_within}
 use Rattle.packed.proofs.packed_source.PackedSourceSource.back.Goals as goal
@@ -14,5 +13,5 @@ pub invariant_of-self : goal.invariant_of-self
 invariant_of-self c =
     let s = c.args.self.now in
     let to = c.start_of_last-self.result in
-    let here = back_begins s.bytes.now s.place s.offset c.args.p to s.whole s.here (omega (arith, c.if-p-self.false)) c.start_of_last-self.ensures.start in
+    let here = back_begins s.bytes.now s.place s.offset c.args.p to s.whole s.here (omega (arith, c.if-p-self.false)) c.start_of_last-self.ensures in
     record { whole = s.whole; here = here; within = here_within s.bytes.now c.args.p to s.whole here }

@@ -1,7 +1,6 @@
-use Rattle.std.proofs.Common.{rules, ◌≡◌, ◌++◌, ◌-◌, ◌*◌, ◌≤◌, true, false, length, drop, sym, ◌∙◌, ap, subst, refl, arith}
+use Rattle.std.proofs.Common.{rules, ◌*◌, ◌≤◌, length, sym, ◌∙◌, ap, subst, refl, arith}
 use Rattle.std.proofs.lemmas.Bool.{true≢false}
-use Rattle.cdf.specs.Entries.{entry_fits}
-use Rattle.packed.specs.Packing.{packed_entry, unpacked, NoEntry}
+use Rattle.packed.specs.Packing.{unpacked, NoEntry}
 use Rattle.packed.specs.Laws.{packed_least}
 use Rattle.packed.proofs.Records.{part_rest, next_none, next_unfit, next_fits, next_begins}
 use Rattle.packed.proofs.packed_source.PackedSourceSource.next.Goals as goal
