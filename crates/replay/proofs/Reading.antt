@@ -1,9 +1,12 @@
 -- Questions read one after the other: what is left of them gives what all of them give; and a record read back.
-use Rattle.std.proofs.Common.{◌≡◌, ℕ, zero, suc, ◌+◌, ◌*◌, ◌<◌, ◌≤◌, leb, leb→le, Bool, true, false, List, [], ◌∷◌, ◌++◌, map, length, get_or, take, drop, set, Ok, Err, Some, None, Option, Result, sym, refl, ap, ap₂, ◌∙◌, subst, arith}
+use Rattle.std.proofs.Common.{◌≡◌, ℕ, zero, suc, ◌+◌, ◌*◌, ◌<◌, ◌≤◌, leb, leb→le, Bool, true, false, cond, List, [], ◌∷◌, ◌++◌, map, length, get_or, take, drop, set, Ok, Err, Some, None, Option, Result, sym, refl, ap, ap₂, ◌∙◌, subst, arith}
 use Rattle.std.specs.Result.{MatchResult, IsOkAnd, result_map_both}
 use Rattle.std.proofs.lemmas.List.{drop_all, at_drop_more, take_more_set, map-append}
 use Rattle.cdf.specs.declared.entry.Entry.{Entry}
 use Rattle.av1.specs.declared.call.Call.{Call}
+use Rattle.av1.specs.declared.call.Call.TheVariants as call
+use Rattle.av1.specs.declared.size.BlockSize.{BlockSize}
+use Rattle.av1.specs.declared.tile.TileBlockOffset.{TileBlockOffset}
 use Rattle.model.specs.declared.Question.{Question}
 use Rattle.model.specs.declared.Question.TheVariants as question
 use mathlib.Core.Option.{none}
@@ -195,3 +198,9 @@ start_mapped columns rows last memory ok =
 pub start_columns : (columns rows last : ℕ) → units (start columns rows last) ≡ columns * rows
 unfolding start
 start_columns columns rows last = refl
+
+-- a segment that was read for a block that is skipped, or is not
+pub segment_stood : (bo : TileBlockOffset) (z : BlockSize) (skip : Bool) (id : ℕ)
+    → stood_of (record { call = call.Segment bo z (cond skip None (Some id)); segment = id }) ≡ record { question = question.Segment bo.x bo.y z skip; decision = id }
+segment_stood bo z true id = refl
+segment_stood bo z false id = refl

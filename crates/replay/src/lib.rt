@@ -4,11 +4,13 @@
 pub mod book;
 pub mod call;
 pub mod read;
+pub mod read_back;
 pub mod write;
 
 pub use crate::book::{Book, Standing};
 pub use crate::call::make_call;
 pub use crate::read::{ReadRun, read_call, read_calls};
+pub use crate::read_back::ReadBack;
 pub use crate::write::{ReplayError, write_calls};
 
 #[cfg(test)]

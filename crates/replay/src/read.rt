@@ -84,7 +84,24 @@ pub fn read_call<Q: Source>(
                     segment: 0,
                 })
         }
-        Question::Segment { .. } | Question::Alphas | Question::Vector { .. } => unreachable!(),
+        Question::Segment { x, y, bsize, skip } => {
+            let bo = TileBlockOffset { x, y };
+            reader
+                .read_segmentation(source, map, bo, bsize, skip)
+                .map(|segment| Standing {
+                    call: Call::Segment {
+                        bo,
+                        bsize,
+                        segment: if skip { None } else { Some(segment) },
+                    },
+                    segment,
+                })
+        }
+        Question::Alphas => reader.read_cfl_alphas(source).map(|(u, v)| Standing {
+            call: Call::Alphas { u, v },
+            segment: 0,
+        }),
+        Question::Vector { .. } => unreachable!(),
         Question::ContextUpdate {
             x,
             y,
