@@ -1,5 +1,5 @@
 -- The parts of a component, read by their tables.
-use Rattle.std.proofs.Common.{◌≡◌, ℕ, zero, suc, ◌+◌, ◌*◌, ◌^◌, ◌<◌, ◌≤◌, Bool, true, false, ◌||◌, eqb, leb, ℤ, pos, Ok, Result, refl, ap, ◌∙◌, sym, subst, arith}
+use Rattle.std.proofs.Common.{◌≡◌, ℕ, zero, suc, ◌+◌, ◌*◌, ◌%◌, ◌^◌, ◌<◌, ◌≤◌, Bool, true, eqb, leb, ℤ, pos, Ok, Result, refl, ap, ◌∙◌, sym, subst, arith}
 use Rattle.std.proofs.Math.Pow.{pow_mono}
 use Rattle.av1.specs.declared.mv.MvSubpelPrecision.{MvSubpelPrecision}
 use Rattle.av1.specs.declared.mv.MvSubpelPrecision.TheVariants as precision
@@ -52,3 +52,22 @@ magnitude_below (suc c) d f h hc hd hf hh =
 -- a component that the joint says is there
 pub coded_if : {start : ℕ} {m n : Point} {r : Result ℤ ReadFault} (b : ℕ) (p : MvSubpelPrecision) (q : Bool) → q ≡ true → Reads start (component_tree b p) m n r → Reads start (component_if q b p) m n r
 coded_if {start} {m} {n} {r} b p q e x = subst (λ k. Reads start (component_if k b p) m n r) (sym e) x
+
+-- which components a joint names, as the code asks
+pub rows_named : (j : ℕ) → j < 4 → leb 2 j ≡ has_row j
+rows_named zero h = refl
+rows_named (suc zero) h = refl
+rows_named (suc (suc zero)) h = refl
+rows_named (suc (suc (suc zero))) h = refl
+rows_named (suc (suc (suc (suc j)))) h = absurd (omega arith)
+
+pub cols_named : (j : ℕ) → j < 4 → eqb (j % 2) 1 ≡ has_col j
+cols_named zero h = refl
+cols_named (suc zero) h = refl
+cols_named (suc (suc zero)) h = refl
+cols_named (suc (suc (suc zero))) h = refl
+cols_named (suc (suc (suc (suc j)))) h = absurd (omega arith)
+
+-- a component that is there where a test says so
+pub present_as : {start : ℕ} {m n : Point} {r : Result ℤ ReadFault} (b : ℕ) (p : MvSubpelPrecision) (q h : Bool) → q ≡ h → Reads start (component_if q b p) m n r → Reads start (component_if h b p) m n r
+present_as {start} {m} {n} {r} b p q h e x = subst (λ k. Reads start (component_if k b p) m n r) e x
