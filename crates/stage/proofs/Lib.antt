@@ -8,10 +8,12 @@ mod Contexts
 mod Partitions
 mod Places
 mod ReadAlphas
+mod ReadBits
 mod ReadBlocks
 mod ReadCalls
 mod ReadPoints
 mod ReadTrees
+mod ReadVectors
 mod Readers
 mod Segments
 mod Skips

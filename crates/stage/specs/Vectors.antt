@@ -1,5 +1,5 @@
 -- How many symbols the parts of a vector have, and the tables that are chosen by the class.
-use Rattle.std.specs.Prelude.{◌≡◌, ℕ, zero, suc, ◌+◌, ◌*◌, ◌/◌, ◌%◌, true, ◌||◌, List, ◌++◌, ℤ, ◌==◌}
+use Rattle.std.specs.Prelude.{◌≡◌, ℕ, zero, suc, ◌+◌, ◌*◌, ◌/◌, ◌%◌, ◌^◌, true, ◌||◌, List, ◌++◌, ℤ, ◌==◌}
 use Rattle.av1.specs.declared.mv.MvSubpelPrecision.{MvSubpelPrecision}
 use Rattle.av1.specs.declared.mv.MvSubpelPrecision.TheVariants as at
 use Rattle.av1.specs.Vectors.{class_base, class_of, signed}
@@ -51,3 +51,8 @@ fraction_first b (suc c) d = b + 36
 abbrev pub high_first : ℕ → ℕ → ℕ
 high_first b zero = b + 2
 high_first b (suc c) = b + 4
+
+-- the integer part lies below this
+abbrev pub integer_width : ℕ → ℕ
+integer_width zero = 2
+integer_width (suc c) = 2 ^ suc c

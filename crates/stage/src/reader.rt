@@ -11,6 +11,7 @@ mod segment;
 mod skip;
 mod start;
 mod symbols;
+mod vector;
 
 /// The reader of one tile. The map and the source are lent to each call. It is a stage on which no trial is ever opened,
 /// so that nothing is logged.
