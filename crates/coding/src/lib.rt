@@ -1,14 +1,14 @@
 //! Codes a script of calls: what is to be printed for it.
 #![tactic(auto)]
 
-use av1::Cell;
+use av1::{Call, Cell};
 use journal::{Log, Spot, Window};
 use packed::{PackedRecord, pack};
-use record::{Sink, WordRecord};
-use replay::make_call;
-use script::{Answered, Digest, Recorded, Script, SinkKind, StartRefused, State};
+use record::WordRecord;
+use replay::{Book, ReadBack, Standing, make_call};
+use script::{Answered, Compared, Digest, Recorded, Script, SinkKind, StartRefused, State};
 use stage::Stage;
-use std::alloc::Global;
+use std::alloc::{AllocError, Global};
 use std::fmt::Write;
 
 /// The digest of the tables, the contexts and the tile's cells.
@@ -26,6 +26,21 @@ fn digest(stage: &Stage, cells: &[Cell]) -> u64 {
     d.value()
 }
 
+/// The cells of a tile, or a few of them where the tile is larger than any.
+fn empty_map(heap: Global, script: &Script) -> Result<Vec<Cell>, AllocError> {
+    let units = script.columns.saturating_mul(script.rows).min(1_048_576);
+    let empty = Cell {
+        skip: false,
+        segment: 0,
+    };
+    vec![in heap; empty; units]
+}
+
+/// The last active segment. A number that no segment can have is refused by the start.
+fn last_segment(script: &Script) -> u8 {
+    u8::try_from(script.last).unwrap_or(u8::MAX)
+}
+
 /// What a script's calls come to.
 #[derive(Drop)]
 pub struct Coding {
@@ -35,8 +50,48 @@ pub struct Coding {
     pub packed: Vec<u8>,
 }
 
+/// Reads a sink's record by the questions of the standing calls, and counts those that come back equal.
+fn read_back<S: ReadBack>(
+    heap: Global,
+    script: &Script,
+    sink: &S,
+    standing: &[Standing],
+) -> anyhow::Result<Compared> {
+    let mut questions = Vec::with_capacity(heap, standing.len())?;
+    for call in standing {
+        questions.push(call.question())?;
+    }
+    let mut answers = vec![in heap; Standing {
+        call: Call::RowStart,
+        segment: 0
+    }; standing.len()]?;
+    let mut map = empty_map(heap, script)?;
+    let last = last_segment(script);
+    let read = match sink.read_back(
+        script.columns,
+        script.rows,
+        last,
+        &mut map,
+        &questions,
+        &mut answers,
+    ) {
+        Ok(run) => run.stop.map_or(standing.len(), |(read, _)| read),
+        Err(_) => 0,
+    };
+    let equal = standing
+        .iter()
+        .zip(answers.iter())
+        .take(read)
+        .filter(|(call, answer)| call == answer)
+        .count();
+    Ok(Compared {
+        equal,
+        standing: standing.len(),
+    })
+}
+
 /// Makes a script's calls over a sink, and goes on with the report.
-fn code_over<S: Sink>(
+fn code_over<S: ReadBack>(
     heap: Global,
     script: &Script,
     mut stage: Stage,
@@ -58,9 +113,11 @@ fn code_over<S: Sink>(
         large: &mut large,
         spots: &mut spots,
     };
+    let mut book = Book::new(heap);
     for line in &script.lines {
         let call = line.written.call(stage.trials());
         let answer = make_call(&mut stage, sink, map, &mut log, call);
+        book.note(call, answer)?;
         writeln!(
             &mut report,
             "{}",
@@ -81,23 +138,16 @@ fn code_over<S: Sink>(
         }
     )?;
     writeln!(&mut report, "{}", State(digest(&stage, map)))?;
+    let compared = read_back(heap, script, sink, book.standing())?;
+    writeln!(&mut report, "{compared}")?;
     Ok(Coding { report, packed })
 }
 
 /// Codes a script.
 pub fn code(heap: Global, script: &Script) -> anyhow::Result<Coding> {
     let mut report = String::new(heap);
-    let units = script.columns.saturating_mul(script.rows).min(1_048_576);
-    let mut map = vec![in heap; Cell {
-        skip: false,
-        segment: 0
-    }; units]?;
-    let stage = match Stage::start(
-        script.columns,
-        script.rows,
-        u8::try_from(script.last).unwrap_or(u8::MAX),
-        &mut map,
-    ) {
+    let mut map = empty_map(heap, script)?;
+    let stage = match Stage::start(script.columns, script.rows, last_segment(script), &mut map) {
         Ok(stage) => stage,
         Err(e) => {
             writeln!(&mut report, "{}", StartRefused(e))?;

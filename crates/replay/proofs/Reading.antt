@@ -1,11 +1,12 @@
 -- Questions read one after the other: what is left of them gives what all of them give; and a record read back.
-use Rattle.std.proofs.Common.{◌≡◌, ℕ, zero, suc, ◌+◌, ◌*◌, ◌<◌, ◌≤◌, leb, leb→le, Bool, true, false, cond, List, [], ◌∷◌, ◌++◌, map, length, get_or, take, drop, set, Ok, Err, Some, None, Option, Result, sym, refl, ap, ap₂, ◌∙◌, subst, arith}
+use Rattle.std.proofs.Common.{◌≡◌, ℕ, zero, suc, ◌+◌, ◌*◌, ◌<◌, ◌≤◌, leb, leb→le, Bool, true, false, cond, List, [], ◌∷◌, ◌++◌, map, length, get_or, take, drop, set, Ok, Err, Some, None, Option, Result, IfOk, sym, refl, ap, ap₂, ◌∙◌, subst, arith}
 use Rattle.std.specs.Result.{MatchResult, IsOkAnd, result_map_both}
 use Rattle.std.proofs.lemmas.List.{drop_all, at_drop_more, take_more_set, map-append}
 use Rattle.cdf.specs.declared.entry.Entry.{Entry}
 use Rattle.av1.specs.declared.call.Call.{Call}
 use Rattle.av1.specs.declared.call.Call.TheVariants as call
 use Rattle.av1.specs.declared.size.BlockSize.{BlockSize}
+use Rattle.av1.specs.declared.tile.Cell.{Cell}
 use Rattle.av1.specs.declared.tile.TileBlockOffset.{TileBlockOffset}
 use Rattle.model.specs.declared.Question.{Question}
 use Rattle.model.specs.declared.Question.TheVariants as question
@@ -21,9 +22,11 @@ use Rattle.model.proofs.ReadSteps.{reads_by_step}
 use Rattle.model.proofs.Staged.{stage_reads_record}
 use Rattle.model.proofs.Standing.{or_else_second, unless_true}
 use Rattle.replay.specs.declared.book.Standing.{Standing}
+use Rattle.replay.specs.declared.read.ReadRun.{ReadRun}
+use Rattle.replay.specs.declared.write.ReplayError.{ReplayError}
 use Rattle.replay.specs.Books.{standing_calls}
 use Rattle.replay.specs.Calls.{Answered, asking}
-use Rattle.replay.specs.Reads.{call_read, call_seen, left_by, reading_of, stood_of, with_question, ReadsBackTo}
+use Rattle.replay.specs.Reads.{call_read, call_seen, left_by, reading_of, state_read, stood_of, with_question, ReadsBackTo}
 use Rattle.replay.specs.Runs.{ran, standing, Outcome}
 use Rattle.replay.proofs.Calls.{mapped}
 use Rattle.replay.proofs.Traces.{ran_world, standing_is}
@@ -204,3 +207,20 @@ pub segment_stood : (bo : TileBlockOffset) (z : BlockSize) (skip : Bool) (id : �
     → stood_of (record { call = call.Segment bo z (cond skip None (Some id)); segment = id }) ≡ record { question = question.Segment bo.x bo.y z skip; decision = id }
 segment_stood bo z true id = refl
 segment_stood bo z false id = refl
+
+-- a source that is at its first entry reads the whole record
+pub read_whole : (r : Result ReadRun ReplayError) (memory : ℕ) (from : State) (qs : List Question) (answers : List Standing) (cells : List Cell) (l now es : List Entry) (p end : ℕ)
+    → l ≡ es → now ≡ l → p ≡ 0
+    → IfOk r (λ r. reading_of (length qs) r.stop answers (state_read r.reader cells) now end ≡ reads stage memory from qs (drop p l) p)
+    → IfOk r (λ r. p ≡ 0 → ReadsBackTo from l qs r.stop answers (state_read r.reader cells) end)
+    → IfOk r (λ r. (place : ℕ)
+    × (reading_of (length qs) r.stop answers (state_read r.reader cells) es place ≡ reads stage memory from qs es 0)
+    × ReadsBackTo from es qs r.stop answers (state_read r.reader cells) place)
+read_whole (Ok r) memory from qs answers cells l now es p end same kept first read back = (
+  end,
+  ap (λ x. reading_of (length qs) r.stop answers (state_read r.reader cells) x end) (sym (kept ∙ same))
+      ∙ read
+      ∙ ap₂ (λ k x. reads stage memory from qs (drop k x) k) first same,
+  subst (λ x. ReadsBackTo from x qs r.stop answers (state_read r.reader cells) end) same (back first),
+)
+read_whole (Err e) memory from qs answers cells l now es p end same kept first read back = tt

@@ -101,7 +101,16 @@ pub fn read_call<Q: Source>(
             call: Call::Alphas { u, v },
             segment: 0,
         }),
-        Question::Vector { .. } => unreachable!(),
+        Question::Vector { precision } => {
+            reader.read_mv(source, precision).map(|(row, col)| Standing {
+                call: Call::Vector {
+                    row,
+                    col,
+                    precision,
+                },
+                segment: 0,
+            })
+        }
         Question::ContextUpdate {
             x,
             y,

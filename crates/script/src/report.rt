@@ -57,6 +57,25 @@ impl fmt::Display for Recorded {
     }
 }
 
+/// How many of the standing calls a reader of the record gave back equal.
+#[derive(Clone, Copy)]
+pub struct Compared {
+    pub equal: usize,
+    pub standing: usize,
+}
+
+impl fmt::Display for Compared {
+    ghost output = { λ s. Some (codes "read back " ++ (decimal s.equal ++ (codes " of " ++ (decimal s.standing ++ codes " standing calls equal")))) };
+
+    fn fmt<W: fmt::Write>(&self, f: &mut fmt::Formatter<W>) -> fmt::Result {
+        write!(
+            f,
+            "read back {} of {} standing calls equal",
+            self.equal, self.standing
+        )
+    }
+}
+
 /// The digest of the final state, in 16 hexadecimal digits.
 #[derive(Clone, Copy)]
 pub struct State(pub u64);

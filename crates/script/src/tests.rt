@@ -1,7 +1,7 @@
 use crate::digest::Digest;
 use crate::name::Named;
 use crate::parse::parse;
-use crate::report::{Answered, Recorded, StartRefused, State};
+use crate::report::{Answered, Compared, Recorded, StartRefused, State};
 use crate::statement::SinkKind;
 use crate::word::Word;
 use crate::written::Written;
@@ -388,6 +388,14 @@ fn lines_are_printed(rt: HostRuntime) -> Result<(), Fail> {
             bytes: 9,
         },
         "record 4 entries, 9 bytes packed",
+    )?;
+    prints(
+        &rt,
+        Compared {
+            equal: 6,
+            standing: 7,
+        },
+        "read back 6 of 7 standing calls equal",
     )?;
     prints(&rt, State(0xab01), "state 000000000000ab01")
 }

@@ -162,8 +162,8 @@ impl Reader {
         Ok((row, col))
     }
 
-    // Reads a vector: row and column. It becomes public with the call that reads whole lists back.
-    pub(crate) fn read_mv<Q: Source>(
+    /// Reads a vector: row and column.
+    pub fn read_mv<Q: Source>(
         &mut self,
         source: &mut Q,
         precision: MvSubpelPrecision,

@@ -21,6 +21,10 @@ pub returns-in-Alphas-clause-step : goal.returns-in-Alphas-clause-step
 returns-in-Alphas-clause-step g c =
     read_made _ (λ d. d) (λ d. record { call = call.Alphas d.0 d.1; segment = 0 }) _ _ _ _ _ _ c.in-Alphas.is c.map-in-Alphas.ensures.cases (λ x y h. search rules) (λ x. refl) (c.read_cfl_alphas.ensures.step c.args.map.now)
 
+pub returns-in-Vector-clause-step : goal.returns-in-Vector-clause-step
+returns-in-Vector-clause-step g c =
+    read_made _ (λ d. d) (λ d. record { call = call.Vector d.0 d.1 c.in-Vector.precision; segment = 0 }) _ _ _ _ _ _ c.in-Vector.is c.map-in-Vector.ensures.cases (λ x y h. search rules) (λ x. refl) (c.read_mv.ensures.step c.args.map.now)
+
 pub returns-in_ok-update_partition_context-in-ContextUpdate-clause-step : goal.returns-in_ok-update_partition_context-in-ContextUpdate-clause-step
 returns-in_ok-update_partition_context-in-ContextUpdate-clause-step g c =
     read_shown _ _ _ _ _ tt (record { call = call.ContextUpdate _ _ _; segment = 0 }) c.in-ContextUpdate.is refl
