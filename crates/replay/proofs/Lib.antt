@@ -4,3 +4,4 @@ pub mod Traces
 pub mod Units
 mod Noting
 pub mod Reading
+pub mod Rounds

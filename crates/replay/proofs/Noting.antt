@@ -1,9 +1,14 @@
--- A book whose list is cut to the top number.
-use Rattle.std.proofs.Common.{◌≡◌, ℕ, ◌+◌, ◌-◌, ◌<◌, List, [], ◌∷◌, map, length, reverse, get_or, take, Some, sym, refl, ap, ◌∙◌, arith}
+-- The book, call by call.
+use Rattle.std.proofs.Common.{◌≡◌, ℕ, ◌+◌, ◌-◌, ◌<◌, ◌≤◌, List, [], ◌∷◌, map, length, reverse, get_or, take, drop, Some, sym, refl, ap, ◌∙◌, arith}
 use Rattle.std.specs.List.{slice_get}
-use Rattle.std.proofs.lemmas.List.{get_or-reverse, length-reverse, take-map}
+use Rattle.std.proofs.lemmas.List.{at_drop_more, get_or-reverse, length-append, length-reverse, length-take, take-map}
 use Rattle.std.proofs.lemmas.Option.{get_or_from_slice_get}
-use Rattle.model.specs.Runs.{cut_book}
+use Rattle.av1.specs.declared.call.Call.{Call}
+use Rattle.model.specs.declared.Question.{Question}
+use Rattle.model.specs.Decisions.{Decision, stage}
+use Rattle.model.specs.Runs.{Asking, Book, Told, ask, cut_book, ended, keep, noted, open_trial, opened, refused, take_back, wrote}
+use Rattle.replay.specs.Calls.{Answered, asking}
+use Rattle.replay.specs.Runs.{book_of, told_of}
 
 cut_at_top : {A : Type 0} (xs : List A) (ns : List ℕ) → 0 < length ns → cut_book xs ns ≡ take (get_or ns 0 0) xs
 cut_at_top xs [] h = absurd (omega arith)
@@ -19,3 +24,42 @@ cut_to_last f xs (m ∷ ns) n e =
     sym (take-map f n xs)
     ∙ ap (λ k. take k (map f xs)) (sym top)
     ∙ sym (cut_at_top (map f xs) (reverse (m ∷ ns)) (omega (arith, length-reverse (m ∷ ns))))
+
+-- one call more is taken down
+pub noted_more : (cs : List Call) (as' : List Answered) (i : ℕ) (c : Call) (a : Answered) (b : Book Question Decision) → i < length cs → i < length as'
+    → book_of b (drop i cs) (drop i as') ≡ book_of (noted b (asking (get_or cs i c)) (told_of (get_or cs i c) (get_or as' i a))) (drop (i + 1) cs) (drop (i + 1) as')
+noted_more cs as' i c a b h k =
+    at_drop_more (λ l. book_of b l (drop i as')) cs i c h
+    ∙ at_drop_more (λ l. book_of b (get_or cs i c ∷ drop (i + 1) cs) l) as' i a k
+
+-- a book has no more calls than were taken down
+pub standing_few : (cs : List Call) (as' : List Answered) (b : Book Question Decision) → length (book_of b cs as').standing ≤ length b.standing + length cs
+standing_few [] as' b = omega arith
+standing_few (c ∷ cs) [] b = omega arith
+standing_few (c ∷ cs) (a ∷ as') b =
+    omega (arith, standing_few cs as' (noted b (asking c) (told_of c a)), one (asking c) (told_of c a))
+  where
+    cut_few : (ns : List ℕ) → length (cut_book b.standing ns) ≤ length b.standing
+    cut_few [] = omega arith
+    cut_few (n ∷ ns) = omega (arith, length-take n b.standing)
+
+    one : (c : Asking stage) (t : Told Question Decision) → length (noted b c t).standing ≤ length b.standing + 1
+    one (ask q d) (wrote n x) = omega (arith, length-append b.standing (x ∷ []))
+    one open_trial (wrote n x) = omega arith
+    one (take_back k) (wrote n x) = omega arith
+    one (keep k) (wrote n x) = omega arith
+    one (ask q d) (opened n) = omega arith
+    one open_trial (opened n) = omega arith
+    one (take_back k) (opened n) = omega arith
+    one (keep k) (opened n) = omega arith
+    one (ask q d) ended = omega arith
+    one open_trial ended = omega arith
+    one (take_back k) ended = omega (arith, cut_few b.numbers)
+    one (keep k) ended = omega arith
+    one c (refused n) = omega arith
+
+-- answers behind those of the calls do not matter
+pub book_take : (cs : List Call) (as' : List Answered) (b : Book Question Decision) → book_of b cs as' ≡ book_of b cs (take (length cs) as')
+book_take [] as' b = refl
+book_take (c ∷ cs) [] b = refl
+book_take (c ∷ cs) (a ∷ as') b = book_take cs as' (noted b (asking c) (told_of c a))

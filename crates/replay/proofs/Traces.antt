@@ -14,6 +14,7 @@ use Rattle.model.proofs.Staged.{stage_no_trace, stage_tells_apart}
 use Rattle.av1.specs.declared.call.Call.{Call}
 use Rattle.av1.specs.declared.call.Call.TheVariants as call
 use Rattle.replay.specs.Calls.{Answered, asking, answer_of, call_step}
+use Rattle.replay.specs.Reads.{left_by}
 use Rattle.replay.specs.Runs.{ran, told_of, book_of, standing, started, Outcome, NoTraceOf, ToldApart, SymbolsDiffer, RefusedWhereAsked}
 use Rattle.stage.specs.declared.state.Stage.{Stage}
 use Rattle.stage.specs.View.{refused_by, units_of, world}
@@ -116,6 +117,10 @@ module _ (memory : ℕ) (room : List Entry → ℕ) (from : State) (lent : Lent 
 
   pub has_outcome : Outcome from cs answers end.core.entries
   has_outcome = record { memory = memory; room = room; lent = lent; answered = as_told; left = ap (λ (w : World stage). w.core.entries) left }
+
+  pub outcome_state : left_by has_outcome ≡ end.core.state
+  unfolding has_outcome
+  outcome_state = ap (λ (w : World stage). w.core.state) left
 
   pub is_told_apart : Sound from → ToldApart from cs answers end.core.entries
   is_told_apart sound calls' answers' entries' o same more more' q d e one two differ =

@@ -2,3 +2,4 @@ pub mod Calls
 pub mod Runs
 pub mod Books
 pub mod Reads
+pub mod Rounds

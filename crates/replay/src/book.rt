@@ -1,7 +1,7 @@
-ghost use Rattle.std.specs.Prelude.{◌≡◌, OnErr, OnOk};
+ghost use Rattle.std.specs.Prelude.{◌≡◌, ℕ, ◌+◌, IfOk, OnErr, OnOk, is_ok, true};
 ghost use Rattle.model.specs.Decisions.{stage as subject};
 ghost use Rattle.model.specs.Runs.{cut, empty_book, noted, take_back};
-ghost use Rattle.replay.specs.Books.{book, standing_calls};
+ghost use Rattle.replay.specs.Books.{book, standing_calls, Room};
 ghost use Rattle.replay.specs.Calls.{asking};
 ghost use Rattle.replay.specs.Runs.{told_of};
 
@@ -24,6 +24,16 @@ pub struct Book {
 }
 
 impl Book {
+    /// The book before any call, with room for so many.
+    pub fn with_capacity(heap: Global, calls: usize) -> Result<Book, AllocError>
+        ensures empty { IfOk result (λ b. book b ≡ empty_book subject) }
+        ensures room { IfOk result (λ b. Room calls b) }
+    {
+        let standing = Vec::with_capacity(heap, calls)?;
+        let numbers = Vec::with_capacity(heap, calls)?;
+        Ok(Book { standing, numbers })
+    }
+
     /// The book before any call.
     pub fn new(heap: Global) -> Book
         ensures { book result ≡ empty_book subject }
@@ -36,17 +46,19 @@ impl Book {
 
     // The calls since the innermost trial was opened go; the number at which it was opened stays.
     fn cut(&mut self)
-        ensures { book self.new ≡ cut (book self.old) (take_back 0) }
+        ensures cut { book self.new ≡ cut (book self.old) (take_back 0) }
+        ensures room { (n : ℕ) → Room (n + 1) self.old → Room n self.new }
     {
         if let Some(number) = self.numbers.last() {
             self.standing.truncate(*number);
         }
     }
 
-    /// Takes down a call and what it answered.
+    /// Takes down a call and what it answered. While as many calls were taken down as the book has room for, it does.
     pub fn note(&mut self, call: Call, answer: Result<Answer, Refusal>) -> Result<(), AllocError>
         ensures noted { OnOk result (book self.new ≡ noted (book self.old) (asking call) (told_of call answer)) }
         ensures still { OnErr result (book self.new ≡ book self.old) }
+        ensures room { (n : ℕ) → Room (n + 1) self.old → (is_ok result ≡ true) × Room n self.new }
     {
         match (call, answer) {
             (Call::Open, Ok(Answer::Opened(_))) => self.numbers.push(self.standing.len())?,

@@ -5,12 +5,14 @@ pub mod book;
 pub mod call;
 pub mod read;
 pub mod read_back;
+pub mod round;
 pub mod write;
 
 pub use crate::book::{Book, Standing};
 pub use crate::call::make_call;
 pub use crate::read::{ReadRun, read_call, read_calls};
 pub use crate::read_back::ReadBack;
+pub use crate::round::{Round, RoundError, write_and_read};
 pub use crate::write::{ReplayError, write_calls};
 
 #[cfg(test)]

@@ -7,4 +7,4 @@ pub mod state;
 
 pub use crate::reader::Reader;
 pub use crate::reader::fault::{ReadError, ReadFault, SymbolFault};
-pub use crate::state::{Stage, Trial};
+pub use crate::state::{Stage, Trial, ask_start};

@@ -23,6 +23,8 @@ mod trials;
 mod update;
 pub(crate) mod vector;
 
+pub use crate::state::start::ask_start;
+
 /// The partition contexts, a byte for 8 pixels: above the tile, and left of the superblock.
 #[derive(Drop)]
 pub(crate) struct Contexts {

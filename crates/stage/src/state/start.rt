@@ -45,9 +45,9 @@ impl Journal {
     }
 }
 
-// The tile of a start, or the first question that is answered by no. Columns, rows and the last segment go one by one, as
-// each is asked for; what is allowed is a `Tile`.
-fn ask_start(columns: usize, rows: usize, last: u8, memory: usize) -> Result<Tile, Refusal>
+/// The tile of a start, or the first question that is answered by no. Columns, rows and the last segment go one by one, as
+/// each is asked for; what is allowed is a `Tile`.
+pub fn ask_start(columns: usize, rows: usize, last: u8, memory: usize) -> Result<Tile, Refusal>
     ensures asked { refused_by result ≡ start_asked columns rows last memory }
     ensures made { IfOk result (λ t. (t.cols ≡ columns) × (t.rows ≡ rows) × (last ≤ 7) × (columns * rows ≤ memory)) }
 {

@@ -8,8 +8,8 @@ use Rattle.replay.specs.declared.book.Standing.{Standing}
 use Rattle.replay.proofs.Noting.{cut_to_last}
 use Rattle.replay.proofs.book.Book.cut.Goals as goal
 
-pub returns-in-Some : goal.returns-in-Some
-returns-in-Some c =
+pub returns-in-Some-clause-cut : goal.returns-in-Some-clause-cut
+returns-in-Some-clause-cut c =
     let b = c.args.self.now in
     let last = c.in-Some.ensures.value ∙ ap (λ (l : List ℕ). slice_get l (length l - 1)) c.deref.ensures.value in
     ap (λ (l : List (model.Standing stage)). record { standing = l; numbers = reverse (vec_items b.numbers) })
