@@ -18,7 +18,10 @@ pub struct SymbolFault {
 #[derive(Clone, Copy, PartialEq, Debug)]
 pub enum ReadFault {
     /// A symbol is not read.
-    Symbol { symbol: SymbolFault, entry: usize },
+    Symbol {
+        symbol: SymbolFault,
+        entry: usize,
+    },
     /// A segment's symbol is above the last active segment; with the first word of its table, and its place in the source.
     AboveLast {
         entry: usize,

@@ -16,12 +16,7 @@ use journal::Log;
 impl Reader {
     /// Starts a tile of `columns` × `rows` units, of which `last` is the last active segment. The first
     /// columns × rows cells of the map are cleared; what lies behind them is never written.
-    pub fn start(
-        columns: usize,
-        rows: usize,
-        last: u8,
-        map: &mut [Cell],
-    ) -> Result<Reader, Refusal>
+    pub fn start(columns: usize, rows: usize, last: u8, map: &mut [Cell]) -> Result<Reader, Refusal>
         ensures asked { refused_by result ≡ start_asked columns rows last (length map.old) }
         ensures fresh { IfOk result (λ r. state_of r.stage map.new ≡ start columns rows last) }
         ensures map { map.new ≡ (if is_ok result then cleared (columns * rows) map.old else map.old) }

@@ -13,11 +13,7 @@ use record::Source;
 
 impl Reader {
     // Reads a symbol by a table, which adapts to it.
-    fn read_symbol<Q: Source>(
-        &mut self,
-        source: &mut Q,
-        table: Table,
-    ) -> Result<u8, SymbolFault>
+    fn read_symbol<Q: Source>(&mut self, source: &mut Q, table: Table) -> Result<u8, SymbolFault>
         ensures took { Took (coder.whole (table_of table)) (point self.old.stage (Q.Source.list source.old) (Q.Source.place source.old)) (point self.new.stage (Q.Source.list source.new) (Q.Source.place source.new)) result }
         ensures still { is_ok result ≡ false → self.new ≡ self.old }
     {
@@ -44,9 +40,7 @@ impl Reader {
         let Some(words) = self.stage.tables.edge_table(table.first, table.n, edge) else {
             unreachable!()
         };
-        let s = source
-            .next(&words)
-            .map_err(|fault| (fault, table.first))?;
+        let s = source.next(&words).map_err(|fault| (fault, table.first))?;
         Ok(s)
     }
 

@@ -155,10 +155,20 @@ impl Reader {
         let joint = self.read_entry(source, start, Table { first: 302, n: 4 })?;
         let rows = joint >= 2;
         let cols = joint % 2 == 1;
-        let row =
-            self.read_mv_component(source, start, NMVComponent { base: 318 }, precision, rows)?;
-        let col =
-            self.read_mv_component(source, start, NMVComponent { base: 374 }, precision, cols)?;
+        let row = self.read_mv_component(
+            source,
+            start,
+            NMVComponent { base: 318 },
+            precision,
+            rows,
+        )?;
+        let col = self.read_mv_component(
+            source,
+            start,
+            NMVComponent { base: 374 },
+            precision,
+            cols,
+        )?;
         Ok((row, col))
     }
 
