@@ -82,12 +82,15 @@ fn a_partition_at_an_edge_adapts_nothing(rt: HostRuntime) -> Result<(), Fail> {
     assert_eq!(rt; split, Ok(PartitionType::PARTITION_SPLIT));
     let across = reader.read_partition(&mut source, ORIGIN, size);
     assert_eq!(rt; across, Ok(PartitionType::PARTITION_HORZ));
-    let none = reader.read_partition(&mut source, ORIGIN, size);
-    let at_end = SymbolFault {
-        source: SourceFault::NoNextEntry { place: 2 },
-        table: 206 - 10,
+    let at_end = ReadFault::Symbol {
+        symbol: SymbolFault {
+            source: SourceFault::NoNextEntry { place: 2 },
+            table: 166,
+        },
+        entry: 0,
     };
-    assert!(rt; none.is_err() && at_end.refusal() == Refusal::NoNextEntry);
+    let none = reader.read_partition(&mut source, ORIGIN, size);
+    assert_eq!(rt; none, Err(ReadError::Fault(at_end)));
     assert_eq!(rt; *reader.words(), before);
     let outside = TileBlockOffset { x: 16, y: 0 };
     let refused = reader.read_partition(&mut source, outside, size);
