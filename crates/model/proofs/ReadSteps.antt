@@ -1,15 +1,14 @@
 -- A read leaves the list from its place on, so that reads follow each other by places.
-use Rattle.std.proofs.Common.{◌≡◌, ℕ, zero, suc, ◌-◌, Bool, true, false, List, [], ◌∷◌, drop, Ok, Err, refl, ap, ◌∙◌}
+use Rattle.std.proofs.Common.{◌≡◌, ℕ, zero, suc, ◌-◌, Bool, true, false, List, [], ◌∷◌, drop, Err, refl, ap, ◌∙◌}
 use mathlib.Core.Option.{Option, none, some}
 use Rattle.av1.specs.declared.refusal.Refusal.{Refusal}
 use Rattle.av1.specs.declared.refusal.Refusal.TheVariants as no
 use Rattle.cdf.specs.declared.entry.Entry.{Entry}
 use Rattle.cdf.specs.Words.{Words}
-use Rattle.model.specs.declared.Question.{Question}
-use Rattle.model.specs.Coders.{Coder, after, fits, table_of}
+use Rattle.model.specs.Coders.{after, fits, table_of}
 use Rattle.model.specs.Decisions.{State, Decision, stage, tree}
 use Rattle.model.specs.Reading.{ReadsByStep, read_each, read_on, read_step, read_told}
-use Rattle.model.specs.Runs.{Reading, fault, read_asked, reads, settle, stopped, turned, with_first}
+use Rattle.model.specs.Runs.{fault, read_asked, reads, settle, stopped, turned, with_first}
 use Rattle.model.specs.Tree.{Answer, Syntax, coded, done, faulty, never, read, read_as}
 
 pub drop_one : (p : ℕ) (es rest : List Entry) (e : Entry) → e ∷ rest ≡ drop p es → rest ≡ drop (suc p) es

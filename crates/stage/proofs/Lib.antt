@@ -14,7 +14,6 @@ mod ReadCalls
 mod ReadPoints
 mod ReadTrees
 mod ReadVectors
-mod Readers
 mod Segments
 mod Skips
 mod Starts

@@ -1,5 +1,5 @@
 -- An alpha read by its sign and the other's.
-use Rattle.std.proofs.Common.{◌≡◌, ℕ, zero, suc, ◌+◌, ◌*◌, ◌/◌, ◌%◌, ℤ, pos, negsuc, Ok, Err, Result, Some, None, refl, ap, ◌∙◌, subst, sym}
+use Rattle.std.proofs.Common.{◌≡◌, ℕ, zero, suc, ◌+◌, ◌*◌, ℤ, pos, Ok, Err, Result, Some, None, refl, ◌∙◌, subst}
 use Rattle.av1.specs.Alphas.{alpha_at, alpha_context}
 use Rattle.model.specs.Alphas.{alpha_tree, alpha_value}
 use Rattle.model.specs.Tree.{one}

@@ -1,5 +1,5 @@
 -- Bits read one after the other: what is left to read gives what the whole gives.
-use Rattle.std.proofs.Common.{◌≡◌, ℕ, zero, suc, ◌+◌, ◌-◌, ◌*◌, ◌%◌, ◌^◌, ◌<◌, ◌≤◌, List, Ok, Err, Result, refl, ap, ◌∙◌, sym, add-one, arith}
+use Rattle.std.proofs.Common.{◌≡◌, ℕ, zero, suc, ◌+◌, ◌-◌, ◌*◌, ◌%◌, ◌^◌, ◌<◌, ◌≤◌, Ok, Err, refl, ap, ◌∙◌, sym, add-one, arith}
 use Rattle.std.proofs.Math.Nat.{pow-suc}
 use Rattle.std.proofs.Math.Pow.{pow_mono}
 use Rattle.cdf.specs.Words.{table}
@@ -8,7 +8,7 @@ use Rattle.model.specs.Tree.{Answer, Syntax, and_then, coded, done, faulty, neve
 use Rattle.model.specs.Vector.{bits_tree}
 use Rattle.stage.specs.declared.reader.fault.ReadFault.{ReadFault}
 use Rattle.stage.specs.Faults.{fault_of}
-use Rattle.stage.specs.Reads.{OnlyTables, Point, Reads, ahead, told}
+use Rattle.stage.specs.Reads.{OnlyTables, Point, Reads, ahead}
 use Rattle.stage.proofs.ReadPoints.{only_same, only_then}
 use Rattle.stage.proofs.ReadTrees.{read_stops, read_then}
 

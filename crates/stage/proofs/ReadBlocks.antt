@@ -1,5 +1,5 @@
 -- What a read answers, and the state after it, where it sets the cells of a block and where it does not.
-use Rattle.std.proofs.Common.{◌≡◌, ℕ, zero, suc, ◌+◌, ◌*◌, ◌≤◌, min, Bool, true, false, cond, not, ◌&&◌, T, eqb, leb, List, [], ◌∷◌, map, length, get_or, take, drop, Ok, Err, Result, sym, refl, ap, ◌∙◌, arith}
+use Rattle.std.proofs.Common.{◌≡◌, ℕ, zero, suc, ◌+◌, ◌*◌, ◌≤◌, Bool, true, false, cond, not, eqb, leb, List, [], ◌∷◌, map, get_or, take, drop, Ok, Err, Result, sym, refl, ap, ◌∙◌, arith}
 use mathlib.Core.Option.{Option, none, some}
 use Rattle.std.proofs.lemmas.Bool.{ne_eqb}
 use Rattle.av1.specs.declared.refusal.Refusal.{Refusal}
@@ -22,12 +22,12 @@ use Rattle.model.specs.declared.Question.{Question}
 use Rattle.model.specs.Calls.{spot_step, spot_steps}
 use Rattle.model.specs.Decisions.{Decision, State, block_cells, cells_of, flag_read, put_spots, spots, stage, tree, with_words}
 use Rattle.model.specs.Reading.{read_step, read_told}
-use Rattle.model.specs.Runs.{Stop, World, fault, or_else, read_asked, settle, turned, unless}
-use Rattle.model.specs.Tree.{Answer, Fault, Syntax, faulty, read, read_as}
+use Rattle.model.specs.Runs.{World, fault, or_else, read_asked, settle, turned, unless}
+use Rattle.model.specs.Tree.{Fault, Syntax, faulty, read, read_as}
 use Rattle.stage.specs.declared.reader.fault.ReadFault.{ReadFault}
 use Rattle.stage.specs.declared.state.Stage.{Stage}
 use Rattle.stage.specs.declared.state.cells.Change.{Change}
-use Rattle.stage.specs.Cells.{change_each, changed, logged_cells}
+use Rattle.stage.specs.Cells.{changed}
 use Rattle.stage.specs.Reads.{OnlyTables, Point, Reads, ahead, block_set, told}
 use Rattle.stage.specs.View.{lane, refused_by, state_of}
 use Rattle.stage.proofs.Calls.{asked_block}

@@ -1,5 +1,5 @@
 -- The calls of a reader, which reads as the model does.
-use Rattle.std.proofs.Common.{◌≡◌, ℕ, zero, suc, ◌<◌, Bool, true, false, leb, List, [], ◌∷◌, length, reverse, drop, Ok, Err, Result, sym, refl, ap, ◌∙◌, ap₂, arith}
+use Rattle.std.proofs.Common.{◌≡◌, ℕ, leb, List, [], ◌∷◌, length, drop, Ok, Err, Result, sym, refl, ap, ◌∙◌, ap₂}
 use mathlib.Core.Option.{Option, none, some}
 use Rattle.std.proofs.lemmas.List.{length-reverse}
 use Rattle.av1.specs.declared.refusal.Refusal.{Refusal}
@@ -13,7 +13,7 @@ use Rattle.model.specs.declared.Question.TheVariants as question
 use Rattle.model.specs.Calls.{answer_by, row_step, update_step}
 use Rattle.model.specs.Decisions.{Decision, State, placed, stage, trail}
 use Rattle.model.specs.Reading.{read_step, read_told}
-use Rattle.model.specs.Runs.{Lent, Stop, TrailOf, World, answered, ask, done_call, log_open, open_questions, or_else, refusal, turned, unless}
+use Rattle.model.specs.Runs.{Lent, Stop, TrailOf, World, answered, ask, log_open, open_questions, or_else, refusal, turned, unless}
 use Rattle.model.specs.Tree.{done, read}
 use Rattle.stage.specs.declared.state.Journal.{Journal}
 use Rattle.stage.specs.Faults.{turned_by}

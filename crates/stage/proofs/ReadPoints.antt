@@ -1,11 +1,11 @@
 -- Reading from one point to another: a symbol, one syntax after another, and the end of a decision.
-use Rattle.std.proofs.Common.{◌≡◌, ℕ, suc, ◌+◌, ◌-◌, ◌<◌, ◌≤◌, Bool, true, false, length, drop, Ok, Err, Result, sym, refl, ap, ◌∙◌, subst, add-one, arith}
+use Rattle.std.proofs.Common.{◌≡◌, ℕ, suc, ◌-◌, ◌<◌, ◌≤◌, Bool, true, length, drop, Ok, Err, Result, sym, refl, ap, ◌∙◌, subst, add-one, arith}
 use Rattle.std.proofs.lemmas.Bool.{both_ways}
 use Rattle.av1.specs.declared.refusal.Refusal.{Refusal}
 use Rattle.cdf.specs.Words.{Table}
 use Rattle.model.specs.Coders.{Coder, after, coded_by, symbols, table_of}
 use Rattle.model.specs.Decisions.{partition_tree}
-use Rattle.model.specs.Tree.{Answer, Syntax, and_then, coded, done, faulty, never, read, read_as, read_by}
+use Rattle.model.specs.Tree.{Syntax, and_then, coded, done, faulty, never, read_as, read_by}
 use Rattle.model.proofs.Trees.{by_then}
 use Rattle.record.specs.declared.source.SourceFault.{SourceFault}
 use Rattle.record.specs.Sources.{next_answer, next_place}

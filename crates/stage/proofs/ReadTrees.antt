@@ -1,5 +1,5 @@
 -- What is read by one syntax and then another, and a symbol that is read by a coder.
-use Rattle.std.proofs.Common.{◌≡◌, ℕ, zero, suc, ◌+◌, ◌-◌, ◌*◌, ◌^◌, ◌<◌, ◌≤◌, Bool, true, false, cond, ◌&&◌, eqb, ltb, List, [], ◌∷◌, length, get_or, drop, Ok, Err, Result, sym, refl, ap, ◌∙◌, subst, add-one, arith}
+use Rattle.std.proofs.Common.{◌≡◌, ℕ, suc, ◌+◌, ◌-◌, ◌<◌, ◌≤◌, Bool, true, false, cond, ◌&&◌, eqb, ltb, List, [], ◌∷◌, length, get_or, drop, Ok, Err, Result, sym, refl, ap, ◌∙◌, subst, arith}
 use Rattle.std.proofs.lemmas.Bool.{and_parts, ltb-true, ltb-false}
 use Rattle.std.proofs.lemmas.List.{drop_all}
 use Rattle.std.proofs.Math.Seq.{drop-cons}
@@ -7,10 +7,9 @@ use Rattle.av1.specs.declared.refusal.Refusal.{Refusal}
 use Rattle.av1.specs.declared.refusal.Refusal.TheVariants as no
 use Rattle.cdf.specs.declared.entry.Entry.{Entry}
 use Rattle.cdf.specs.Entries.{entry_fits}
-use Rattle.cdf.specs.Words.{Words, fh_at, fl_at, table}
-use Rattle.model.specs.Coders.{Coder, after, coded_by, fits, symbols, table_of, whole}
-use Rattle.model.specs.Tree.{Answer, Fault, Syntax, and_then, coded, done, faulty, never, one, read, read_as, read_by}
-use Rattle.model.specs.Vector.{bits_tree}
+use Rattle.cdf.specs.Words.{Words, fh_at, fl_at}
+use Rattle.model.specs.Coders.{Coder, after, coded_by, fits, symbols, table_of}
+use Rattle.model.specs.Tree.{Answer, Fault, Syntax, and_then, coded, done, faulty, never, read, read_as}
 use Rattle.record.specs.declared.source.SourceFault.{SourceFault}
 use Rattle.record.specs.declared.source.SourceFault.TheVariants as source
 use Rattle.record.specs.Sinks.{no_entry}

@@ -1,12 +1,12 @@
 -- The parts of a component, read by their tables.
-use Rattle.std.proofs.Common.{◌≡◌, ℕ, zero, suc, ◌+◌, ◌*◌, ◌%◌, ◌^◌, ◌<◌, ◌≤◌, Bool, true, eqb, leb, ℤ, pos, Ok, Result, refl, ap, ◌∙◌, sym, subst, arith}
+use Rattle.std.proofs.Common.{◌≡◌, ℕ, zero, suc, ◌+◌, ◌*◌, ◌%◌, ◌^◌, ◌<◌, ◌≤◌, Bool, true, eqb, leb, ℤ, Ok, Result, refl, sym, subst, arith}
 use Rattle.std.proofs.Math.Pow.{pow_mono}
 use Rattle.av1.specs.declared.mv.MvSubpelPrecision.{MvSubpelPrecision}
 use Rattle.av1.specs.declared.mv.MvSubpelPrecision.TheVariants as precision
-use Rattle.av1.specs.Vectors.{class_base, signed}
+use Rattle.av1.specs.Vectors.{class_base}
 use Rattle.cdf.specs.Words.{Table, table}
 use Rattle.model.specs.Coders.{whole}
-use Rattle.model.specs.Tree.{Syntax, and_then, coded, done, one, read_by}
+use Rattle.model.specs.Tree.{Syntax, one}
 use Rattle.model.specs.Vector.{bits_tree, component_if, component_tree, fraction_tree, has_col, has_row, high_tree, integer_tree}
 use Rattle.stage.specs.declared.reader.fault.ReadFault.{ReadFault}
 use Rattle.stage.specs.Reads.{Point, Reads, symbol_tree}

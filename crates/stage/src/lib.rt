@@ -8,3 +8,6 @@ pub mod state;
 pub use crate::reader::Reader;
 pub use crate::reader::fault::{ReadError, ReadFault, SymbolFault};
 pub use crate::state::{Stage, Trial, ask_start};
+
+#[cfg(test)]
+mod tests;

@@ -1,9 +1,8 @@
-use Rattle.std.proofs.Common.{◌≡◌, Some, None, arith, rules}
+use Rattle.std.proofs.Common.{◌≡◌, Some, rules}
 use Rattle.std.proofs.lemmas.Result.{err_from_is_err_and}
 use Rattle.av1.specs.Alphas.{alpha_context, sign_number}
 use Rattle.model.proofs.TreeTables.{alpha_in_layout}
-use Rattle.stage.specs.Reads.{point}
-use Rattle.stage.proofs.ReadAlphas.{alpha_read, alpha_stops, alpha_zero}
+use Rattle.stage.proofs.ReadAlphas.{alpha_read, alpha_stops}
 use Rattle.stage.proofs.reader.Reader.read_alpha.Goals as goal
 
 pub invariant_of-table : goal.invariant_of-table

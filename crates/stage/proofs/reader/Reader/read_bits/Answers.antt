@@ -1,7 +1,6 @@
-use Rattle.std.proofs.Common.{◌≡◌, ℕ, ◌+◌, ◌-◌, ◌*◌, ◌%◌, ◌^◌, ◌<◌, sym, ap, ◌∙◌, subst, arith}
+use Rattle.std.proofs.Common.{◌≡◌, ◌+◌, ◌*◌, ◌%◌, ◌^◌, ◌<◌, ap, ◌∙◌, arith}
 use Rattle.std.proofs.lemmas.Result.{err_from_is_err_and}
-use Rattle.stage.specs.Reads.{Reads, point}
-use Rattle.stage.proofs.ReadBits.{Left, bit_placed, bits_end, bits_from, bits_grow, bits_turn, bits_whole, breaks, closes, goes}
+use Rattle.stage.proofs.ReadBits.{bit_placed, bits_end, bits_grow, bits_turn, bits_whole, breaks, closes, goes}
 use Rattle.stage.proofs.reader.Reader.read_bits.Goals as goal
 
 pub returns-in_err-bit-clause-reads : goal.returns-in_err-bit-clause-reads

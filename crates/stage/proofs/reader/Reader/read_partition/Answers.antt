@@ -1,9 +1,9 @@
-use Rattle.std.proofs.Common.{◌≡◌, ℕ, ◌-◌, List, length, drop, Err, sym, refl, ap, ◌∙◌}
+use Rattle.std.proofs.Common.{ℕ, ◌-◌, List, length, drop, Err, sym, refl, ap, ◌∙◌}
 use Rattle.std.proofs.lemmas.Result.{err_from_is_err_and}
 use Rattle.av1.specs.Partitions.{number}
 use Rattle.av1.specs.declared.tile.Cell.{Cell}
 use Rattle.model.specs.declared.Question.TheVariants as question
-use Rattle.model.specs.Decisions.{State, partition_tree, stage}
+use Rattle.model.specs.Decisions.{partition_tree}
 use Rattle.model.specs.Runs.{fault}
 use Rattle.model.specs.Tree.{read}
 use Rattle.stage.specs.Faults.{fault_of}

@@ -1,6 +1,4 @@
 use Rattle.std.proofs.Common.{[], length}
-use Rattle.model.specs.Decisions.{stage}
-use Rattle.model.specs.Runs.{Lent}
 use Rattle.stage.proofs.ReadCalls.{none_marked, row_closed, row_read, no_lanes}
 use Rattle.stage.proofs.Symbols.{none_open}
 use Rattle.stage.proofs.reader.Reader.reset_left_contexts.Goals as goal

@@ -1,4 +1,4 @@
-use Rattle.std.proofs.Common.{◌-◌, List, [], ◌∙◌, take}
+use Rattle.std.proofs.Common.{◌-◌, [], ◌∙◌, take}
 use Rattle.model.specs.Decisions.{block_cells}
 use Rattle.stage.proofs.Cells.{still_quiet}
 use Rattle.stage.proofs.Symbols.{same_trials}

@@ -1,5 +1,4 @@
 use Rattle.std.proofs.Common.{[], length}
-use Rattle.stage.specs.View.{lanes, world}
 use Rattle.stage.proofs.ReadCalls.{none_marked, update_closed, update_read}
 use Rattle.stage.proofs.Symbols.{none_open}
 use Rattle.stage.proofs.reader.Reader.update_partition_context.Goals as goal

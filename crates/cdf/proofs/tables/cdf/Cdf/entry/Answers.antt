@@ -1,5 +1,4 @@
-use Rattle.std.proofs.Common.{◌≡◌, length, arith, rules}
-use Rattle.cdf.specs.Entries.{is_entry}
+use Rattle.std.proofs.Common.{arith}
 use Rattle.cdf.proofs.Entries.{entry_lawful}
 use Rattle.cdf.proofs.tables.cdf.Cdf.entry.Goals as goal
 
