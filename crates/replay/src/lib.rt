@@ -14,4 +14,6 @@ pub use crate::read_back::ReadBack;
 pub use crate::write::{ReplayError, write_calls};
 
 #[cfg(test)]
+mod damage;
+#[cfg(test)]
 mod tests;
