@@ -300,9 +300,9 @@ fn read(entries: &[Entry], standing: &[Standing]) -> Option<End> {
     })
 }
 
-/// What holds however a record was damaged. Where no question is refused, the decisions are not the standing ones, which
-/// have another record. Else an entry is at fault: it is missing at the end alone, and stands so far behind the source's
-/// place as it has entries of its decision before it; and a segment has one entry, by one of three tables.
+/// What holds however one entry was damaged. Where no question is refused, the decisions are not the standing ones, since
+/// those have the entries that were written. Else an entry is at fault: it is missing at the end alone, and stands as far
+/// behind the source's place as its number in its decision says; and a segment has one entry, by one of three tables.
 fn is_lawful(end: &End, entries: usize) -> bool {
     let Some(told) = end.told else {
         return end.answered == STANDING && end.equal < STANDING && end.place <= entries;
@@ -490,11 +490,28 @@ fn entry_in_place(
     }
 }
 
-/// Whether an entry is that of alpha v by the table of alpha u, as it was left by u.
-fn is_by_a_table_of_its_call(call: Call, number: Option<usize>) -> bool {
+/// The words when a table of 16 symbols, which has adapted fewer than 16 times, adapts to symbol `s`, by another reading of
+/// the rules.
+fn adapted(words: &[u16; 430], table: usize, s: u8) -> [u16; 430] {
+    let mut after = *words;
+    for i in 0..15 {
+        if let Some(word) = after.get_mut(table.wrapping_add(i)) {
+            if i < usize::from(s) {
+                *word = word.wrapping_add(32768u16.saturating_sub(*word) / 32);
+            } else {
+                *word = word.wrapping_sub(*word / 32);
+            }
+        }
+    }
+    after
+}
+
+/// The words at an entry of a call: those at its first entry, except in a table that an earlier entry adapted. That is the
+/// table of alpha v where u has the same sign, and `before` is u's symbol.
+fn words_at(words: &[u16; 430], table: usize, call: Call, number: usize, before: u8) -> [u16; 430] {
     match call {
-        Call::Alphas { u, v } => number == Some(2) && (u < 0) == (v < 0),
-        _ => false,
+        Call::Alphas { u, v } if number == 2 && (u < 0) == (v < 0) => adapted(words, table, before),
+        _ => *words,
     }
 }
 
@@ -527,21 +544,25 @@ fn turns_at(end: &End, call: usize, at: usize, above_last: bool, table: usize) -
 fn another_symbol(rt: HostRuntime) -> Result<(), Fail> {
     let written = write(rt.alloc())?;
     let entries = written.record.entries();
+    let mut before = 0;
     for (i, entry) in entries.iter().enumerate() {
-        let (number, first) = writer_of(&written.ends, i);
+        let (number, _) = writer_of(&written.ends, i);
         let call = written.book.standing().get(number).ok_or("no call")?.call;
-        if is_by_a_table_of_its_call(call, i.checked_sub(first)) {
-            continue;
-        }
         let cut = read(&entries[..i], written.book.standing()).ok_or("no start")?;
-        let table = table_of(&cut).ok_or("no table")?;
+        let Told {
+            table,
+            entry: at,
+            ..
+        } = cut.told.ok_or("not refused")?;
+        let words = words_at(cut.reader.words(), table, call, at, before);
+        before = entry.s;
         for s in 0..entry.n {
-            let other = entry_in_place(cut.reader.words(), table, call, *entry, s);
+            let other = entry_in_place(&words, table, call, *entry, s).ok_or("no entry")?;
             if s == entry.s {
-                assert_eq!(rt; other, Some(*entry), "entry {i}");
+                assert_eq!(rt; other, *entry, "entry {i}");
                 continue;
             }
-            let damaged = with(rt.alloc(), entries, i, other)?;
+            let damaged = with(rt.alloc(), entries, i, Some(other))?;
             let end = read(&damaged, written.book.standing()).ok_or("no start")?;
             assert!(rt; is_lawful(&end, ENTRIES), "entry {i}, symbol {s}");
             let above_last = matches!(call, Call::Segment { .. }) && s > LAST;
