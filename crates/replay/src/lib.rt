@@ -16,4 +16,6 @@ pub use crate::round::{Round, RoundError, write_and_read};
 pub use crate::write::{ReplayError, write_calls};
 
 #[cfg(test)]
+mod damage;
+#[cfg(test)]
 mod tests;
