@@ -1,8 +1,12 @@
 use crate::call::make_call;
+use crate::read_back::ReadBack;
+use crate::round::write_and_read;
 use av1::{Answer, BlockSize, Call, Cell, MvSubpelPrecision, Refusal, TileBlockOffset};
 use journal::{Log, Spot, Window};
+use packed::PackedRecord;
 use record::{Sink, WordRecord};
 use stage::Stage;
+use std::process::Abort;
 use std::test::Fail;
 
 const EMPTY: Cell = Cell {
@@ -76,4 +80,59 @@ fn taking_back_asks_for_the_lanes_in_use(rt: HostRuntime) -> Result<(), Fail> {
     assert_eq!(rt; *stage.words(), before);
     assert!(rt; !map[0].skip && sink.count() == 0 && stage.trials() == 1);
     Ok(())
+}
+
+/// Three calls that stand, and a trial of which nothing does.
+const ROUND: [Call; 7] = [
+    FLAG,
+    VECTOR,
+    Call::Open,
+    FLAG,
+    Call::TakeBack { depth: 1 },
+    Call::Keep { depth: 1 },
+    Call::RowStart,
+];
+
+fn comes_back<S: ReadBack>(rt: &(impl Abort + AllocGlobal), sink: &mut S) -> Result<(), Fail> {
+    let heap = rt.alloc();
+    let mut map = [EMPTY; 4];
+    let mut reader_map = [EMPTY; 5];
+    let mut small = [SMALL; 1];
+    let mut large = [LARGE; 0];
+    let mut spots = [SPOT; 4];
+    let mut log = Log {
+        small: &mut small,
+        large: &mut large,
+        spots: &mut spots,
+    };
+    let mut answers = [Err(Refusal::Room); 7];
+    let Ok(round) = write_and_read(
+        heap,
+        2,
+        2,
+        0,
+        sink,
+        &mut map,
+        &mut log,
+        &ROUND,
+        &mut answers,
+        &mut reader_map,
+    ) else {
+        return Err(Fail::new("no start"));
+    };
+    assert!(rt; round.run.stop.is_none() && sink.count() == 7);
+    let standing = round.book.standing();
+    assert!(rt; standing.len() == 3 && round.read.len() == 7);
+    for (call, read) in standing.iter().zip(round.read.iter()) {
+        assert!(rt; call == read);
+    }
+    assert!(rt; reader_map[0].skip && !reader_map[4].skip);
+    assert_eq!(rt; *round.run.reader.words(), *round.stage.words());
+    Ok(())
+}
+
+#[test]
+fn what_is_written_comes_back(rt: HostRuntime) -> Result<(), Fail> {
+    comes_back(&rt, &mut WordRecord::new(rt.alloc(), 8)?)?;
+    comes_back(&rt, &mut PackedRecord::new(rt.alloc(), 80)?)
 }
