@@ -1,21 +1,17 @@
 -- An alpha read by its sign and the other's.
-use Rattle.std.proofs.Common.{◌≡◌, ℕ, zero, suc, ◌+◌, ◌*◌, ℤ, pos, Ok, Err, Result, Some, None, refl, ◌∙◌, subst}
+use Rattle.std.proofs.Common.{◌≡◌, ℕ, zero, suc, ◌+◌, ◌*◌, ℤ, Ok, Err, Result, Some, refl, ◌∙◌, subst}
 use Rattle.av1.specs.Alphas.{alpha_at, alpha_context}
 use Rattle.model.specs.Alphas.{alpha_tree, alpha_value}
 use Rattle.model.specs.Tree.{one}
 use Rattle.stage.specs.declared.reader.fault.ReadFault.{ReadFault}
 use Rattle.stage.specs.Reads.{Point, Reads}
-use Rattle.stage.proofs.ReadPoints.{ends, made, stops_made}
+use Rattle.stage.proofs.ReadPoints.{made, stops_made}
 
 value_same : (n a : ℕ) → alpha_at (suc n) a ≡ alpha_value n a
 value_same zero a = refl
 value_same (suc n) a = refl
 
 module _ (start : ℕ) (m n : Point) where
-  pub alpha_zero : (sign other : ℕ) → None ≡ alpha_context sign other → Reads start (alpha_tree sign other) m m (Ok (pos 0))
-  alpha_zero zero other h = ends refl
-  alpha_zero (suc k) other h = cc
-
   pub alpha_read : (sign other context a : ℕ) (d : ℤ) → Some context ≡ alpha_context sign other → Reads start (one (206 + 16 * context) 16) m n (Ok a) → d ≡ alpha_at sign a
       → Reads start (alpha_tree sign other) m n (Ok d)
   alpha_read zero other context a d h x value = cc

@@ -9,7 +9,7 @@ use Rattle.model.specs.Vector.{bits_tree}
 use Rattle.stage.specs.declared.reader.fault.ReadFault.{ReadFault}
 use Rattle.stage.specs.Faults.{fault_of}
 use Rattle.stage.specs.Reads.{OnlyTables, Point, Reads, ahead}
-use Rattle.stage.proofs.ReadPoints.{only_same, only_then}
+use Rattle.stage.proofs.ReadPoints.{only_then}
 use Rattle.stage.proofs.ReadTrees.{read_stops, read_then}
 
 -- whatever is read of what is left is what is read of the whole
@@ -18,9 +18,6 @@ pub record Left {D : Type 0} (start : ℕ) (t : Syntax D) (m : Point) (u : Synta
   pub list : n.list ≡ m.list
   pub on : m.place ≤ n.place
   pub kept : OnlyTables n.stage m.stage
-
-pub begins : {D : Type 0} {start : ℕ} {t : Syntax D} {m : Point} → Left start t m t m
-begins {D} {start} {t} {m} = record { answer = λ x h last. h last; list = refl; on = omega arith; kept = only_same }
 
 pub goes : {A B : Type 0} {start : ℕ} {t : Syntax B} {u : Syntax A} {m n o : Point} {a : A} (g : A → Syntax B)
     → Left start t m (and_then u g) n → Reads start u n o (Ok a) → Left start t m (g a) o

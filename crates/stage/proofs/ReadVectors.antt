@@ -1,16 +1,14 @@
 -- The parts of a component, read by their tables.
-use Rattle.std.proofs.Common.{◌≡◌, ℕ, zero, suc, ◌+◌, ◌*◌, ◌%◌, ◌^◌, ◌<◌, ◌≤◌, Bool, true, eqb, leb, ℤ, Ok, Result, refl, sym, subst, arith}
-use Rattle.std.proofs.Math.Pow.{pow_mono}
+use Rattle.std.proofs.Common.{◌≡◌, ℕ, zero, suc, ◌+◌, ◌*◌, ◌%◌, ◌<◌, Bool, true, eqb, leb, ℤ, Ok, Result, refl, sym, subst, arith}
 use Rattle.av1.specs.declared.mv.MvSubpelPrecision.{MvSubpelPrecision}
 use Rattle.av1.specs.declared.mv.MvSubpelPrecision.TheVariants as precision
-use Rattle.av1.specs.Vectors.{class_base}
 use Rattle.cdf.specs.Words.{Table, table}
 use Rattle.model.specs.Coders.{whole}
 use Rattle.model.specs.Tree.{Syntax, one}
 use Rattle.model.specs.Vector.{bits_tree, component_if, component_tree, fraction_tree, has_col, has_row, high_tree, integer_tree}
 use Rattle.stage.specs.declared.reader.fault.ReadFault.{ReadFault}
 use Rattle.stage.specs.Reads.{Point, Reads, symbol_tree}
-use Rattle.stage.specs.Vectors.{fraction_first, high_first, integer_width}
+use Rattle.stage.specs.Vectors.{fraction_first, high_first}
 
 -- a symbol's tree by another name of its table
 named : {start : ℕ} {m n : Point} {r : Result ℕ ReadFault} (t u : Table) → t ≡ u → Reads start (symbol_tree (whole t)) m n r → Reads start (symbol_tree (whole u)) m n r
@@ -19,10 +17,6 @@ named {start} {m} {n} {r} t u e x = subst (λ k. Reads start (symbol_tree (whole
 pub integer_read : {start : ℕ} {m n : Point} {r : Result ℕ ReadFault} (b c : ℕ) → (c ≡ 0 → ⊥) → Reads start (bits_tree (b + 8) c) m n r → Reads start (integer_tree b c) m n r
 integer_read b zero some x = absurd (some refl)
 integer_read b (suc c) some x = x
-
-pub integer_below : (c d : ℕ) → (c ≡ 0 → ⊥) → d < 2 ^ c → d < integer_width c
-integer_below zero d some h = absurd (some refl)
-integer_below (suc c) d some h = h
 
 pub fraction_read : {start : ℕ} {m n : Point} {r : Result ℕ ReadFault} (first k b : ℕ) (p : MvSubpelPrecision) (c d : ℕ) → (p ≡ precision.MV_SUBPEL_NONE → ⊥)
     → table first k ≡ table (fraction_first b c d) 4 → Reads start (one first k) m n r → Reads start (fraction_tree b p c d) m n r
@@ -42,12 +36,6 @@ high_read first k b precision.MV_SUBPEL_HIGH_PRECISION (suc c) all e x = named (
 -- what is read, by the number that is made of it
 pub as_wide : {start : ℕ} {t : Syntax ℕ} {m n : Point} (a b : ℕ) → b ≡ a → Reads start t m n (Ok a) → Reads start t m n (Ok b)
 as_wide {start} {t} {m} {n} a b e x = subst (λ k. Reads start t m n (Ok k)) (sym e) x
-
--- a magnitude less one lies below 16384
-pub magnitude_below : (c d f h : ℕ) → c < 11 → d < integer_width c → f < 4 → h < 2 → class_base c + (8 * d + 2 * f + h) < 16384
-magnitude_below zero d f h hc hd hf hh = omega arith
-magnitude_below (suc c) d f h hc hd hf hh =
-    let p : 2 ^ suc c ≤ 2 ^ 10 = pow_mono (let l : suc c ≤ 10 = omega arith in l) in omega arith
 
 -- a component that the joint says is there
 pub coded_if : {start : ℕ} {m n : Point} {r : Result ℤ ReadFault} (b : ℕ) (p : MvSubpelPrecision) (q : Bool) → q ≡ true → Reads start (component_tree b p) m n r → Reads start (component_if q b p) m n r
