@@ -1,12 +1,16 @@
-//! Codes a script of calls: what is to be printed for it.
+//! Codes a script of calls, and reads packed bytes by its questions: what is to be printed.
 #![tactic(auto)]
 
-use av1::{Call, Cell};
+pub mod read;
+
+use crate::read::read_back;
+pub use crate::read::read_file;
+use av1::Cell;
 use journal::{Log, Spot, Window};
 use packed::{PackedRecord, pack};
-use record::WordRecord;
-use replay::{Book, ReadBack, Standing, make_call};
-use script::{Answered, Compared, Digest, Recorded, Script, SinkKind, StartRefused, State};
+use record::{Sink, WordRecord};
+use replay::{Book, ReadBack, make_call};
+use script::{Answered, Digest, Recorded, Script, SinkKind, StartRefused, State};
 use stage::Stage;
 use std::alloc::{AllocError, Global};
 use std::fmt::Write;
@@ -27,7 +31,7 @@ fn digest(stage: &Stage, cells: &[Cell]) -> u64 {
 }
 
 /// The cells of a tile, or a few of them where the tile is larger than any.
-fn empty_map(heap: Global, script: &Script) -> Result<Vec<Cell>, AllocError> {
+pub(crate) fn empty_map(heap: Global, script: &Script) -> Result<Vec<Cell>, AllocError> {
     let units = script.columns.saturating_mul(script.rows).min(1_048_576);
     let empty = Cell {
         skip: false,
@@ -37,7 +41,7 @@ fn empty_map(heap: Global, script: &Script) -> Result<Vec<Cell>, AllocError> {
 }
 
 /// The last active segment. A number that no segment can have is refused by the start.
-fn last_segment(script: &Script) -> u8 {
+pub(crate) fn last_segment(script: &Script) -> u8 {
     u8::try_from(script.last).unwrap_or(u8::MAX)
 }
 
@@ -48,57 +52,19 @@ pub struct Coding {
     pub report: String,
     /// The record, packed.
     pub packed: Vec<u8>,
+    /// The calls that stand; none where the start is refused, which the report tells then.
+    pub book: Option<Book>,
 }
 
-/// Reads a sink's record by the questions of the standing calls, and counts those that come back equal.
-fn read_back<S: ReadBack>(
+/// Makes a script's calls over a sink, and puts a line for each into the report.
+fn make_calls<S: Sink>(
     heap: Global,
     script: &Script,
-    sink: &S,
-    standing: &[Standing],
-) -> anyhow::Result<Compared> {
-    let mut questions = Vec::with_capacity(heap, standing.len())?;
-    for call in standing {
-        questions.push(call.question())?;
-    }
-    let mut answers = vec![in heap; Standing {
-        call: Call::RowStart,
-        segment: 0
-    }; standing.len()]?;
-    let mut map = empty_map(heap, script)?;
-    let last = last_segment(script);
-    let read = match sink.read_back(
-        script.columns,
-        script.rows,
-        last,
-        &mut map,
-        &questions,
-        &mut answers,
-    ) {
-        Ok(run) => run.stop.map_or(standing.len(), |(read, _)| read),
-        Err(_) => 0,
-    };
-    let equal = standing
-        .iter()
-        .zip(answers.iter())
-        .take(read)
-        .filter(|(call, answer)| call == answer)
-        .count();
-    Ok(Compared {
-        equal,
-        standing: standing.len(),
-    })
-}
-
-/// Makes a script's calls over a sink, and goes on with the report.
-fn code_over<S: ReadBack>(
-    heap: Global,
-    script: &Script,
-    mut stage: Stage,
+    stage: &mut Stage,
     map: &mut [Cell],
     sink: &mut S,
-    mut report: String,
-) -> anyhow::Result<Coding> {
+    report: &mut String,
+) -> anyhow::Result<Book> {
     let mut small = vec![in heap; Window {
         first: 0,
         words: [0; 4]
@@ -116,10 +82,10 @@ fn code_over<S: ReadBack>(
     let mut book = Book::new(heap);
     for line in &script.lines {
         let call = line.written.call(stage.trials());
-        let answer = make_call(&mut stage, sink, map, &mut log, call);
+        let answer = make_call(stage, sink, map, &mut log, call);
         book.note(call, answer)?;
         writeln!(
-            &mut report,
+            report,
             "{}",
             Answered {
                 line: line.number,
@@ -127,6 +93,19 @@ fn code_over<S: ReadBack>(
             }
         )?;
     }
+    Ok(book)
+}
+
+/// Makes a script's calls over a sink, and goes on with the report.
+fn code_over<S: ReadBack>(
+    heap: Global,
+    script: &Script,
+    mut stage: Stage,
+    map: &mut [Cell],
+    sink: &mut S,
+    mut report: String,
+) -> anyhow::Result<Coding> {
+    let book = make_calls(heap, script, &mut stage, map, sink, &mut report)?;
     let packed = pack(heap, sink)?;
     writeln!(&mut report)?;
     writeln!(
@@ -140,7 +119,11 @@ fn code_over<S: ReadBack>(
     writeln!(&mut report, "{}", State(digest(&stage, map)))?;
     let compared = read_back(heap, script, sink, book.standing())?;
     writeln!(&mut report, "{compared}")?;
-    Ok(Coding { report, packed })
+    Ok(Coding {
+        report,
+        packed,
+        book: Some(book),
+    })
 }
 
 /// Codes a script.
@@ -154,6 +137,7 @@ pub fn code(heap: Global, script: &Script) -> anyhow::Result<Coding> {
             return Ok(Coding {
                 report,
                 packed: Vec::new(heap),
+                book: None,
             });
         }
     };
@@ -168,3 +152,6 @@ pub fn code(heap: Global, script: &Script) -> anyhow::Result<Coding> {
         }
     }
 }
+
+#[cfg(test)]
+mod tests;

@@ -16,7 +16,9 @@ pub use crate::digest::Digest;
 pub use crate::fault::{Fault, ScriptError};
 pub use crate::name::Named;
 pub use crate::parse::{Line, Script};
-pub use crate::report::{Answered, Compared, Recorded, StartRefused, State};
+pub use crate::report::{
+    Answered, Compared, Decided, Recorded, StartRefused, State, Stop, Stopped, SymbolPlace,
+};
 pub use crate::statement::SinkKind;
 pub use crate::word::Word;
 pub use crate::written::Written;

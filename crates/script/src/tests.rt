@@ -1,7 +1,9 @@
 use crate::digest::Digest;
 use crate::name::Named;
 use crate::parse::parse;
-use crate::report::{Answered, Compared, Recorded, StartRefused, State};
+use crate::report::{
+    Answered, Compared, Decided, Recorded, StartRefused, State, Stop, Stopped, SymbolPlace,
+};
 use crate::statement::SinkKind;
 use crate::word::Word;
 use crate::written::Written;
@@ -398,4 +400,72 @@ fn lines_are_printed(rt: HostRuntime) -> Result<(), Fail> {
         "read back 6 of 7 standing calls equal",
     )?;
     prints(&rt, State(0xab01), "state 000000000000ab01")
+}
+
+/// What is printed for the calls above that a reader answers, where a segment answered 6.
+const DECIDED: [(&str, usize); 9] = [
+    ("partition 4 8 32X32 VERT_A", 0),
+    ("skip 1 2 4X8 1", 2),
+    ("segment 6 2 8X16 5", 3),
+    ("segment 6 2 16X8 skipped # 6", 4),
+    ("alphas -13 4", 6),
+    ("alphas 17 0", 7),
+    ("vector -24 9432 NONE", 8),
+    ("context 8 4 32X32 4X8", 11),
+    ("row", 12),
+];
+
+#[test]
+fn decisions_are_printed(rt: HostRuntime) -> Result<(), Fail> {
+    for (line, number) in DECIDED {
+        let (_, call) = CALLS[number];
+        prints(&rt, Decided { call, segment: 6 }, line)?;
+    }
+    Ok(())
+}
+
+#[test]
+fn what_is_printed_is_read_again(rt: HostRuntime) -> Result<(), Fail> {
+    let heap = rt.alloc();
+    for (_, call) in CALLS {
+        let mut text = String::from_str(heap, "tile 8 8 7\n")?;
+        let line = Decided { call, segment: 6 }.to_string(heap)?;
+        text.push_str(line.as_str())?;
+        let script = parse(heap, text.as_str())?;
+        assert!(rt; script.lines.len() == 1);
+        assert_eq!(rt; script.lines[0].written, Written::Call(call));
+    }
+    Ok(())
+}
+
+#[test]
+fn the_end_of_reading_is_told(rt: HostRuntime) -> Result<(), Fail> {
+    let stopped = |stop| Stopped {
+        read: 3,
+        questions: 8,
+        stop,
+    };
+    prints(&rt, stopped(None), "read 3 of 8")?;
+    prints(
+        &rt,
+        stopped(Some(Stop::Refused(Refusal::Position))),
+        "read 3 of 8: refused 5",
+    )?;
+    prints(
+        &rt,
+        stopped(Some(Stop::Symbol {
+            why: Refusal::EntryUnfit,
+            at: SymbolPlace {
+                entry: 1,
+                table: 374,
+                place: 2,
+            },
+        })),
+        "read 3 of 8: refused 20, entry 1 of the decision, table 374, place 2",
+    )?;
+    prints(
+        &rt,
+        Stop::Refused(Refusal::NotPacked { byte: 8 }),
+        "refused 22, byte 8",
+    )
 }

@@ -1,40 +1,55 @@
-//! temuvald [--packed FILE] [SCRIPT]
+//! temuvald [--packed FILE | --read FILE] [SCRIPT]
 //!
 //! Codes a script of calls, and prints what each call answered, how large the record is, and a digest of the final
 //! state. The script is the file that is named, or else the standard input. With `--packed` the packed record is written
-//! to a file.
+//! to a file. With `--read` a packed record is read from a file by the questions of the calls that stand, and the
+//! decisions that were read are printed instead.
 #![tactic(auto)]
 
 use anyhow::anyhow;
-use coding::code;
+use coding::{code, read_file};
+use script::Script;
 use script::parse::parse;
 use std::io::Read;
 use std::process::ExitCode;
 use std::{env, fs};
 
-/// The files that the command line names: where the packed record goes, and the script.
+/// What is wanted of a script.
+#[derive(Drop)]
+enum Task {
+    Code,
+    /// To write the record to a file too.
+    Pack(String),
+    /// To read a file by the script's questions.
+    Read(String),
+}
+
+/// What the command line says.
 #[derive(Drop)]
 struct CommandLine {
-    packed: Option<String>,
+    task: Task,
     script: Option<String>,
 }
 
 fn arguments(rt: &HostRuntime) -> anyhow::Result<CommandLine> {
     let mut args = env::args(rt)?;
     let _program = args.next();
-    let mut script = args.next();
-    let mut packed = None;
-    if script.as_deref() == Some("--packed") {
-        packed = args.next();
-        script = args.next();
-        if packed.is_none() {
-            return Err(anyhow!("--packed wants a file"));
+    let first = args.next();
+    let (task, script) = match first.as_deref() {
+        Some("--packed") => {
+            let path = args.next().ok_or_else(|| anyhow!("--packed wants a file"))?;
+            (Task::Pack(path), args.next())
         }
-    }
+        Some("--read") => {
+            let path = args.next().ok_or_else(|| anyhow!("--read wants a file"))?;
+            (Task::Read(path), args.next())
+        }
+        _ => (Task::Code, first),
+    };
     if args.next().is_some() {
-        return Err(anyhow!("usage: temuvald [--packed FILE] [SCRIPT]"));
+        return Err(anyhow!("usage: temuvald [--packed FILE | --read FILE] [SCRIPT]"));
     }
-    Ok(CommandLine { packed, script })
+    Ok(CommandLine { task, script })
 }
 
 fn script_text(rt: &HostRuntime, path: Option<String>) -> anyhow::Result<String> {
@@ -48,16 +63,29 @@ fn script_text(rt: &HostRuntime, path: Option<String>) -> anyhow::Result<String>
     }
 }
 
+/// Does what is wanted of a script: what is to be printed.
+fn printed(rt: &HostRuntime, task: Task, script: &Script) -> anyhow::Result<String> {
+    match task {
+        Task::Code => Ok(code(rt.alloc(), script)?.report),
+        Task::Pack(path) => {
+            let coding = code(rt.alloc(), script)?;
+            fs::write(rt, path.as_str(), coding.packed.as_slice())?;
+            Ok(coding.report)
+        }
+        Task::Read(path) => {
+            let bytes = fs::read(rt, path.as_str())?;
+            read_file(rt.alloc(), script, bytes.as_slice())
+        }
+    }
+}
+
 fn run(rt: &HostRuntime) -> anyhow::Result<ExitCode> {
     let line = arguments(rt)?;
     let text = script_text(rt, line.script)?;
     match parse(rt.alloc(), text.as_str()) {
         Ok(script) => {
-            let coding = code(rt.alloc(), &script)?;
-            if let Some(path) = line.packed {
-                fs::write(rt, path.as_str(), coding.packed.as_slice())?;
-            }
-            rt.print(coding.report.as_str())?;
+            let report = printed(rt, line.task, &script)?;
+            rt.print(report.as_str())?;
             Ok(ExitCode::SUCCESS)
         }
         Err(e) => {
