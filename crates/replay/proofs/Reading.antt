@@ -1,5 +1,5 @@
 -- Questions read one after the other: what is left of them gives what all of them give; and a record read back.
-use Rattle.std.proofs.Common.{◌≡◌, ℕ, zero, suc, ◌+◌, ◌*◌, ◌<◌, ◌≤◌, leb, leb→le, Bool, true, false, cond, List, [], ◌∷◌, ◌++◌, map, length, get_or, take, drop, set, Ok, Err, Some, None, Option, Result, IfOk, sym, refl, ap, ap₂, ◌∙◌, subst, arith}
+use Rattle.std.proofs.Common.{◌≡◌, ℕ, ◌+◌, ◌*◌, ◌<◌, ◌≤◌, leb, leb→le, Bool, true, false, cond, List, [], ◌∷◌, ◌++◌, map, length, get_or, take, drop, set, Ok, Err, Some, None, Option, Result, IfOk, sym, refl, ap, ap₂, ◌∙◌, subst, arith}
 use Rattle.std.specs.Result.{MatchResult, IsOkAnd, result_map_both}
 use Rattle.std.proofs.lemmas.List.{drop_all, at_drop_more, take_more_set, map-append}
 use Rattle.cdf.specs.declared.entry.Entry.{Entry}
@@ -18,7 +18,6 @@ use Rattle.model.specs.Reading.{read_on, read_step}
 use Rattle.model.specs.Reading as by_step
 use Rattle.model.specs.Runs as model
 use Rattle.model.specs.Runs.{Reading, Stop, World, all_read, stopped, with_first, reads, run, fresh, empty_book, question_of}
-use Rattle.model.proofs.ReadSteps.{reads_by_step}
 use Rattle.model.proofs.Staged.{stage_reads_record}
 use Rattle.model.proofs.Standing.{or_else_second, unless_true}
 use Rattle.replay.specs.declared.book.Standing.{Standing}

@@ -1,17 +1,15 @@
 -- A list of calls that was written, and read back.
-use Rattle.std.proofs.Common.{◌≡◌, ℕ, ◌≤◌, true, List, [], ◌++◌, map, length, take, drop, Some, None, Ok, Err, Option, Result, sym, refl, ap, ◌∙◌, subst, arith}
-use mathlib.Core.Option.{Option as Asked, none}
+use Rattle.std.proofs.Common.{◌≡◌, ℕ, ◌≤◌, List, [], ◌++◌, map, length, take, drop, None, Option, sym, ap, ◌∙◌, subst, arith}
+use mathlib.Core.Option.{none}
 use Rattle.std.proofs.Math.Seq.{take-append_seam}
 use Rattle.std.proofs.lemmas.Bool.{le-leb}
 use Rattle.std.proofs.lemmas.List.{length-map}
 use Rattle.cdf.specs.declared.entry.Entry.{Entry}
 use Rattle.av1.specs.declared.call.Call.{Call}
-use Rattle.av1.specs.declared.refusal.Refusal.{Refusal}
 use Rattle.model.specs.declared.Question.{Question}
 use Rattle.model.specs.Decisions.{State, Decision, stage, start_asked}
 use Rattle.model.specs.Runs.{World, Lent, Book, empty_book, question_of}
 use Rattle.replay.specs.declared.book.Standing.{Standing}
-use Rattle.replay.specs.declared.write.ReplayError.{ReplayError}
 use Rattle.replay.specs.Books.{standing_calls}
 use Rattle.replay.specs.Calls.{Answered}
 use Rattle.replay.specs.Reads.{stood_of, ReadsBackTo}

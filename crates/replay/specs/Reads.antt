@@ -1,5 +1,5 @@
 -- Questions read one after the other, by the calls that answer them, and what that gives back of a run.
-use Rattle.std.specs.Prelude.{◌≡◌, ℕ, ◌*◌, List, [], map, length, take, drop, Ok, Err, Some, None, Option, Result}
+use Rattle.std.specs.Prelude.{◌≡◌, ℕ, List, map, length, take, drop, Ok, Err, Some, None, Option, Result}
 use Rattle.cdf.specs.declared.entry.Entry.{Entry}
 use Rattle.av1.specs.declared.call.Call.{Call}
 use Rattle.av1.specs.declared.tile.Cell.{Cell}

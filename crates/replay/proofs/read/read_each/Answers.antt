@@ -1,6 +1,5 @@
 use Rattle.std.proofs.Common.{◌≡◌, length, sym, ◌∙◌, arith, rules}
 use Rattle.std.proofs.lemmas.Grind.{common_steps}
-use Rattle.model.specs.Reading as by_step
 use Rattle.model.proofs.ReadSteps.{reads_by_step}
 use Rattle.replay.specs.Reads.{state_read, units_read}
 use Rattle.replay.proofs.Reading.{answered_more, refused_here, all_answered}

@@ -1,4 +1,4 @@
-use Rattle.std.proofs.Common.{◌≡◌, ◌+◌, ◌-◌, length, drop, sym, ap, ◌∙◌, subst, arith, rules}
+use Rattle.std.proofs.Common.{◌≡◌, ◌+◌, ◌-◌, length, drop, sym, ap, ◌∙◌, subst, arith}
 use Rattle.replay.specs.Books.{book, Room}
 use Rattle.replay.specs.Runs.{book_of}
 use Rattle.replay.proofs.Noting.{noted_more}

@@ -1,4 +1,4 @@
-use Rattle.std.proofs.Common.{◌≡◌, ◌≤◌, ◌++◌, List, map, length, take, drop, sym, ap, ap₂, ◌∙◌, arith, vec_items}
+use Rattle.std.proofs.Common.{◌≡◌, ◌≤◌, ◌++◌, map, length, take, drop, sym, ap, ap₂, ◌∙◌, arith, vec_items}
 use Rattle.model.specs.declared.Question.{Question}
 use Rattle.model.specs.Decisions.{Decision, stage}
 use Rattle.model.specs.Runs.{Book, question_of}

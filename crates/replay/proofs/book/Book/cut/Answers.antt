@@ -1,4 +1,4 @@
-use Rattle.std.proofs.Common.{ℕ, ◌-◌, List, length, map, reverse, ap, ◌∙◌, vec_items}
+use Rattle.std.proofs.Common.{ℕ, ◌-◌, List, length, reverse, ap, ◌∙◌, vec_items}
 use Rattle.std.specs.List.{slice_get}
 use Rattle.model.specs.Decisions.{stage}
 use Rattle.model.specs.Runs as model
