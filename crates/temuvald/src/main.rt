@@ -12,7 +12,7 @@ use script::Script;
 use script::parse::parse;
 use std::io::Read;
 use std::process::ExitCode;
-use std::{env, fs};
+use std::{env, fs, io};
 
 /// What is wanted of a script.
 #[derive(Drop)]
@@ -52,9 +52,14 @@ fn arguments(rt: &HostRuntime) -> anyhow::Result<CommandLine> {
     Ok(CommandLine { task, script })
 }
 
+/// What was done with a file, or the file's name with what went wrong.
+fn of_file<T>(path: &str, done: io::Result<T>) -> anyhow::Result<T> {
+    done.map_err(|e| anyhow!("{path}: {e}"))
+}
+
 fn script_text(rt: &HostRuntime, path: Option<String>) -> anyhow::Result<String> {
     match path {
-        Some(path) => Ok(fs::read_to_string(rt, path.as_str())?),
+        Some(path) => of_file(path.as_str(), fs::read_to_string(rt, path.as_str())),
         None => {
             let mut text = String::new(rt.alloc());
             let _ = rt.stdin().read_to_string(&mut text)?;
@@ -69,11 +74,12 @@ fn printed(rt: &HostRuntime, task: Task, script: &Script) -> anyhow::Result<Stri
         Task::Code => Ok(code(rt.alloc(), script)?.report),
         Task::Pack(path) => {
             let coding = code(rt.alloc(), script)?;
-            fs::write(rt, path.as_str(), coding.packed.as_slice())?;
+            let written = fs::write(rt, path.as_str(), coding.packed.as_slice());
+            of_file(path.as_str(), written)?;
             Ok(coding.report)
         }
         Task::Read(path) => {
-            let bytes = fs::read(rt, path.as_str())?;
+            let bytes = of_file(path.as_str(), fs::read(rt, path.as_str()))?;
             read_file(rt.alloc(), script, bytes.as_slice())
         }
     }
