@@ -15,18 +15,25 @@ use stage::Stage;
 use std::alloc::{AllocError, Global};
 use std::fmt::Write;
 
-/// The digest of the tables, the contexts and the tile's cells.
-fn digest(stage: &Stage, cells: &[Cell]) -> u64 {
+/// A state as bytes: each word with its low byte first, the contexts, and the flag and segment of each cell.
+fn state_bytes(heap: Global, stage: &Stage, cells: &[Cell]) -> Result<Vec<u8>, AllocError> {
+    let mut bytes = Vec::new(heap);
+    for word in stage.words() {
+        bytes.extend_from_slice(&word.to_le_bytes())?;
+    }
+    bytes.extend_from_slice(stage.above())?;
+    bytes.extend_from_slice(stage.left())?;
+    for cell in cells {
+        bytes.push(u8::from(cell.skip))?;
+        bytes.push(cell.segment)?;
+    }
+    Ok(bytes)
+}
+
+/// The digest of a state's bytes.
+fn digest(bytes: &[u8]) -> u64 {
     let mut d = Digest::new();
-    for w in stage.words() {
-        d.word(*w);
-    }
-    d.bytes(stage.above());
-    d.bytes(stage.left());
-    for c in cells {
-        d.byte(u8::from(c.skip));
-        d.byte(c.segment);
-    }
+    d.bytes(bytes);
     d.value()
 }
 
@@ -52,6 +59,8 @@ pub struct Coding {
     pub report: String,
     /// The record, packed.
     pub packed: Vec<u8>,
+    /// The final state as bytes; none where the start is refused.
+    pub state: Vec<u8>,
     /// The calls that stand; none where the start is refused, which the report tells then.
     pub book: Option<Book>,
 }
@@ -116,12 +125,14 @@ fn code_over<S: ReadBack>(
             bytes: packed.len()
         }
     )?;
-    writeln!(&mut report, "{}", State(digest(&stage, map)))?;
+    let state = state_bytes(heap, &stage, map)?;
+    writeln!(&mut report, "{}", State(digest(&state)))?;
     let compared = read_back(heap, script, sink, book.standing())?;
     writeln!(&mut report, "{compared}")?;
     Ok(Coding {
         report,
         packed,
+        state,
         book: Some(book),
     })
 }
@@ -137,6 +148,7 @@ pub fn code(heap: Global, script: &Script) -> anyhow::Result<Coding> {
             return Ok(Coding {
                 report,
                 packed: Vec::new(heap),
+                state: Vec::new(heap),
                 book: None,
             });
         }

@@ -1,24 +1,44 @@
-//! Codes the scripts of a table, and holds what is printed for each to what the table says. It prints how many scripts
-//! came out as they should; each difference is printed before that, and then the program ends with status 1.
+//! Codes the scripts of tables, and holds what is printed for each to what the table says. It prints how many scripts of
+//! each table came out as they should; each difference is printed before that, and then the program ends with status 1.
 #![tactic(auto)]
 
 mod table;
 
 use crate::table::{Case, Wanted, cases};
 use anyhow::anyhow;
-use coding::code;
+use cdf::Entry;
+use coding::{Coding, code};
+use packed::split_entry;
 use script::parse::parse;
 use std::alloc::Global;
 use std::fmt::Write;
 use std::process::ExitCode;
 use std::{env, fs};
 
-/// What is printed for a script: what its calls answer, or its fault.
-fn printed(heap: Global, text: &str) -> anyhow::Result<String> {
-    match parse(heap, text) {
-        Ok(script) => Ok(code(heap, &script)?.report),
-        Err(e) => Ok(e.to_string(heap)?),
+/// The entries at the front of packed bytes, each in a line.
+fn list_entries(out: &mut String, bytes: &[u8]) -> anyhow::Result<()> {
+    let mut rest = bytes;
+    while let Some((Entry { s, n, fl, fh }, behind)) = split_entry(rest) {
+        writeln!(out, "{s} {n} {fl} {fh}")?;
+        rest = behind;
     }
+    Ok(())
+}
+
+/// What is printed for a script: what its calls answer, or its fault; and then the record's entries, where they are
+/// wanted.
+fn printed(heap: Global, case: &Case) -> anyhow::Result<String> {
+    let script = match parse(heap, case.script.as_str()) {
+        Ok(script) => script,
+        Err(e) => return Ok(e.to_string(heap)?),
+    };
+    let Coding { report, packed, .. } = code(heap, &script)?;
+    let mut text = report;
+    if case.wants_entries() {
+        text.push_str("entries\n")?;
+        list_entries(&mut text, packed.as_slice())?;
+    }
+    Ok(text)
 }
 
 /// A line for each difference between what has to be printed and what came.
@@ -46,16 +66,14 @@ fn differences(heap: Global, case: &Case, came: &str) -> anyhow::Result<String> 
     Ok(out)
 }
 
-fn run(rt: &HostRuntime) -> anyhow::Result<()> {
+/// Codes the scripts of a table, prints the differences, and answers whether there were none.
+fn hold(rt: &HostRuntime, path: &str) -> anyhow::Result<bool> {
     let heap = rt.alloc();
-    let mut args = env::args(rt)?;
-    let _program = args.next();
-    let path = args.next().ok_or_else(|| anyhow!("usage: limits TABLE"))?;
-    let table = fs::read_to_string(rt, path.as_str())?;
+    let table = fs::read_to_string(rt, path)?;
     let cases = cases(heap, table.as_str())?;
     let mut reports = Vec::new(heap);
     for case in &cases {
-        let came = match printed(heap, case.script.as_str()) {
+        let came = match printed(heap, case) {
             Ok(text) => text,
             Err(e) => e.to_string(heap)?,
         };
@@ -65,8 +83,18 @@ fn run(rt: &HostRuntime) -> anyhow::Result<()> {
     }
     let equal = reports.iter().filter(|report| report.is_empty()).count();
     let all = reports.len();
-    println!(rt; "{equal} of {all} scripts as expected")?;
-    if equal < all {
+    println!(rt; "{path}: {equal} of {all} scripts as expected")?;
+    Ok(equal == all)
+}
+
+fn run(rt: &HostRuntime) -> anyhow::Result<()> {
+    let mut args = env::args(rt)?;
+    let _program = args.next();
+    let mut fine = true;
+    for path in args {
+        fine &= hold(rt, path.as_str())?;
+    }
+    if !fine {
         return Err(anyhow!("not all scripts came out as expected"));
     }
     Ok(())

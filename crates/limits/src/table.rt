@@ -16,6 +16,15 @@ pub struct Case {
     pub end: usize,
 }
 
+impl Case {
+    /// Whether the entries have to be printed: a line `entries` stands before them.
+    pub fn wants_entries(&self) -> bool {
+        self.wanted
+            .iter()
+            .any(|wanted| wanted.text.as_str() == "entries")
+    }
+}
+
 /// The line that has to be printed because of line `number` of a script: its comment, where that begins with `>`. Behind
 /// a call this is the call's answer, and the printed line begins with the call's number; else it is the printed line.
 fn line_for(heap: Global, number: usize, line: &str) -> Result<Option<String>, AllocError> {

@@ -1,9 +1,9 @@
-//! temuvald [--packed FILE | --read FILE] [SCRIPT]
+//! temuvald [--packed FILE] [--state FILE] [--read FILE] [SCRIPT]
 //!
 //! Codes a script of calls, and prints what each call answered, how large the record is, and a digest of the final
 //! state. The script is the file that is named, or else the standard input. With `--packed` the packed record is written
-//! to a file. With `--read` a packed record is read from a file by the questions of the calls that stand, and the
-//! decisions that were read are printed instead.
+//! to a file, with `--state` the final state. With `--read`, which goes with neither, a packed record is read from a file
+//! by the questions of the calls that stand, and the decisions that were read are printed instead.
 #![tactic(auto)]
 
 use anyhow::anyhow;
@@ -14,42 +14,54 @@ use std::io::Read;
 use std::process::ExitCode;
 use std::{env, fs, io};
 
-/// What is wanted of a script.
-#[derive(Drop)]
-enum Task {
-    Code,
-    /// To write the record to a file too.
-    Pack(String),
-    /// To read a file by the script's questions.
-    Read(String),
-}
-
-/// What the command line says.
+/// What the command line says: the files that are named.
 #[derive(Drop)]
 struct CommandLine {
-    task: Task,
+    /// Where to write the record.
+    packed: Option<String>,
+    /// Where to write the final state.
+    state: Option<String>,
+    /// What to read by the script's questions.
+    read: Option<String>,
     script: Option<String>,
 }
 
+fn usage() -> anyhow::Error {
+    anyhow!(
+        "usage: temuvald [--packed FILE] [--state FILE] [SCRIPT], or temuvald --read FILE [SCRIPT]"
+    )
+}
+
+/// Names a file, which has to be named once.
+fn name(file: &mut Option<String>, path: Option<String>) -> anyhow::Result<()> {
+    if file.is_some() || path.is_none() {
+        return Err(usage());
+    }
+    *file = path;
+    Ok(())
+}
+
 fn arguments(rt: &HostRuntime) -> anyhow::Result<CommandLine> {
+    let mut line = CommandLine {
+        packed: None,
+        state: None,
+        read: None,
+        script: None,
+    };
     let mut args = env::args(rt)?;
     let _program = args.next();
-    let first = args.next();
-    let (task, script) = match first.as_deref() {
-        Some("--packed") => {
-            let path = args.next().ok_or_else(|| anyhow!("--packed wants a file"))?;
-            (Task::Pack(path), args.next())
+    while let Some(arg) = args.next() {
+        match arg.as_str() {
+            "--packed" => name(&mut line.packed, args.next())?,
+            "--state" => name(&mut line.state, args.next())?,
+            "--read" => name(&mut line.read, args.next())?,
+            _ => name(&mut line.script, Some(arg))?,
         }
-        Some("--read") => {
-            let path = args.next().ok_or_else(|| anyhow!("--read wants a file"))?;
-            (Task::Read(path), args.next())
-        }
-        _ => (Task::Code, first),
-    };
-    if args.next().is_some() {
-        return Err(anyhow!("usage: temuvald [--packed FILE | --read FILE] [SCRIPT]"));
     }
-    Ok(CommandLine { task, script })
+    if line.read.is_some() && (line.packed.is_some() || line.state.is_some()) {
+        return Err(usage());
+    }
+    Ok(line)
 }
 
 /// What was done with a file, or the file's name with what went wrong.
@@ -68,29 +80,38 @@ fn script_text(rt: &HostRuntime, path: Option<String>) -> anyhow::Result<String>
     }
 }
 
-/// Does what is wanted of a script: what is to be printed.
-fn printed(rt: &HostRuntime, task: Task, script: &Script) -> anyhow::Result<String> {
-    match task {
-        Task::Code => Ok(code(rt.alloc(), script)?.report),
-        Task::Pack(path) => {
-            let coding = code(rt.alloc(), script)?;
-            let written = fs::write(rt, path.as_str(), coding.packed.as_slice());
-            of_file(path.as_str(), written)?;
-            Ok(coding.report)
-        }
-        Task::Read(path) => {
-            let bytes = of_file(path.as_str(), fs::read(rt, path.as_str()))?;
-            read_file(rt.alloc(), script, bytes.as_slice())
-        }
+/// Writes bytes to a file, where one is named.
+fn write_to(rt: &HostRuntime, path: Option<String>, bytes: &[u8]) -> anyhow::Result<()> {
+    match path {
+        Some(path) => of_file(path.as_str(), fs::write(rt, path.as_str(), bytes)),
+        None => Ok(()),
     }
 }
 
+/// Codes the script, or reads a file by its questions: what is to be printed.
+fn printed(rt: &HostRuntime, line: CommandLine, script: &Script) -> anyhow::Result<String> {
+    let CommandLine {
+        packed,
+        state,
+        read,
+        ..
+    } = line;
+    if let Some(path) = read {
+        let bytes = of_file(path.as_str(), fs::read(rt, path.as_str()))?;
+        return read_file(rt.alloc(), script, bytes.as_slice());
+    }
+    let coding = code(rt.alloc(), script)?;
+    write_to(rt, packed, coding.packed.as_slice())?;
+    write_to(rt, state, coding.state.as_slice())?;
+    Ok(coding.report)
+}
+
 fn run(rt: &HostRuntime) -> anyhow::Result<ExitCode> {
-    let line = arguments(rt)?;
-    let text = script_text(rt, line.script)?;
+    let mut line = arguments(rt)?;
+    let text = script_text(rt, line.script.take())?;
     match parse(rt.alloc(), text.as_str()) {
         Ok(script) => {
-            let report = printed(rt, line.task, &script)?;
+            let report = printed(rt, line, &script)?;
             rt.print(report.as_str())?;
             Ok(ExitCode::SUCCESS)
         }
