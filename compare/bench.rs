@@ -3,14 +3,15 @@
 use crate::calls::{Call, Script};
 use crate::context::{CDFContextLog, ContextWriter, FrameBlocks};
 use crate::ec::rust::update_cdf;
-use crate::tile::{Tile, start_words, tables};
+use crate::tile::{Tile, start_words, tables, words};
+use crate::{digest, state_bytes};
 use std::fs;
-use std::hint::black_box;
 use std::process::exit;
 use std::time::Instant;
 
-/// The best time of `rounds` rounds, in nanoseconds for each of `count` pieces of work.
+/// The best time of `rounds` rounds behind one that is not timed, in nanoseconds for each of `count` pieces of work.
 fn best(rounds: usize, count: usize, mut work: impl FnMut()) -> f64 {
+    work();
     let times = (0..rounds).map(|_| {
         let start = Instant::now();
         work();
@@ -22,12 +23,12 @@ fn best(rounds: usize, count: usize, mut work: impl FnMut()) -> f64 {
 const TRIALS: usize = 1000;
 const DECISIONS: usize = 64;
 
-/// Whether decision `i` of a trial skips.
+/// Whether decision `i` of a trial is 1.
 fn flag(trial: usize, i: usize) -> bool {
-    (7 * i + trial) % 3 == 0
+    (7 * i + trial).is_multiple_of(3)
 }
 
-fn trials(rounds: usize) -> f64 {
+fn trials(rounds: usize) {
     let mut frame = FrameBlocks::new(16, 16);
     let mut blocks = frame.as_tile_blocks_mut();
     let mut start = tables(start_words());
@@ -42,11 +43,27 @@ fn trials(rounds: usize) -> f64 {
             tile.call(Call::Keep(None));
         }
     });
-    black_box(tile.state().words);
-    time
+    println!("trials {time:.2} ns a decision");
+    println!("state {:016x}", digest(&state_bytes(&tile.state())));
 }
 
-fn log(rounds: usize) -> f64 {
+fn mix(script: &Script, rounds: usize) {
+    let mut frame = FrameBlocks::new(script.columns, script.rows);
+    let mut blocks = frame.as_tile_blocks_mut();
+    let mut start = tables(start_words());
+    let mut tile = Tile::new(ContextWriter::over(&mut start, &mut blocks), script.last);
+    let time = best(rounds, script.calls.len(), || {
+        tile.restart();
+        for &call in &script.calls {
+            tile.call(call);
+        }
+    });
+    println!("mix {time:.2} ns a call");
+    println!("state {:016x}", digest(&state_bytes(&tile.state())));
+}
+
+/// What the log costs alone: 64 symbols by the three skip tables in turn, rolled back.
+fn windows(rounds: usize) {
     let mut fc = tables(start_words());
     let mut log = CDFContextLog::default();
     let time = best(rounds, TRIALS * DECISIONS, || {
@@ -60,22 +77,8 @@ fn log(rounds: usize) -> f64 {
             log.rollback(&mut fc, &mark);
         }
     });
-    black_box(fc.skip_cdfs);
-    time
-}
-
-fn mix(script: &Script, rounds: usize) -> f64 {
-    best(rounds, script.calls.len(), || {
-        let mut frame = FrameBlocks::new(script.columns, script.rows);
-        let mut blocks = frame.as_tile_blocks_mut();
-        let mut start = tables(start_words());
-        let mut tile = Tile::new(ContextWriter::over(&mut start, &mut blocks), script.last);
-        tile.record.entries.reserve(20 * script.calls.len());
-        for &call in &script.calls {
-            tile.call(call);
-        }
-        black_box(tile.entries().len());
-    })
+    println!("windows {time:.2} ns a symbol");
+    println!("words {:016x}", digest(&words(&fc).map(u16::to_le_bytes).concat()));
 }
 
 fn read(path: &str) -> Option<Script> {
@@ -93,7 +96,7 @@ pub fn run(path: &str, rounds: usize) {
         eprintln!("{path} is no script of calls");
         exit(2)
     };
-    println!("trials {:.2} ns a decision", trials(rounds));
-    println!("log {:.2} ns a symbol", log(rounds));
-    println!("mix {:.2} ns a call", mix(&script, rounds));
+    trials(rounds);
+    mix(&script, rounds);
+    windows(rounds);
 }

@@ -93,7 +93,7 @@ impl Call {
 
     /// The call of a script's line.
     pub fn parse(line: &str) -> Option<Call> {
-        let words: Vec<&str> = line.split_whitespace().collect();
+        let words: Vec<&str> = line.split('#').next()?.split_whitespace().collect();
         Some(match words[..] {
             ["partition", x, y, size, partition] => Call::Partition {
                 x: x.parse().ok()?,

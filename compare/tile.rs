@@ -47,7 +47,8 @@ pub fn tables(words: Words) -> CDFContext {
     unsafe { transmute::<Words, CDFContext>(words) }
 }
 
-fn words(tables: &CDFContext) -> Words {
+/// The words of these tables.
+pub fn words(tables: &CDFContext) -> Words {
     // SAFETY: as above.
     unsafe { transmute::<CDFContext, Words>(*tables) }
 }
@@ -80,6 +81,18 @@ pub struct Tile<'a> {
 impl<'a> Tile<'a> {
     pub fn new(writer: ContextWriter<'a>, last: usize) -> Self {
         Tile { writer, record: Recorder::default(), last: last as u8, trials: Vec::new() }
+    }
+
+    /// Begins anew, with nothing in the log and the record.
+    pub fn restart(&mut self) {
+        *self.writer.fc = tables(start_words());
+        self.writer.fc_log.clear();
+        self.writer.bc.above_partition_context = [0; 512];
+        self.writer.bc.left_partition_context = [0; 8];
+        for y in 0..self.writer.bc.blocks.rows() {
+            self.writer.bc.blocks[y].fill(Block::default());
+        }
+        self.record.entries.clear();
     }
 
     fn cells(&self) -> Vec<Block> {
