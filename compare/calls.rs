@@ -3,10 +3,10 @@
 use crate::random::Random;
 use std::fmt;
 
-/// The names of the sizes, in rav1e's order and without those that have a side of 128 pixels; 13 to 15 are left free.
+/// The names of the sizes, in rav1e's order.
 const SIZES: [&str; 22] = [
-    "4X4", "4X8", "8X4", "8X8", "8X16", "16X8", "16X16", "16X32", "32X16", "32X32", "32X64", "64X32", "64X64", "", "",
-    "", "4X16", "16X4", "8X32", "32X8", "16X64", "64X16",
+    "4X4", "4X8", "8X4", "8X8", "8X16", "16X8", "16X16", "16X32", "32X16", "32X32", "32X64", "64X32", "64X64", "64X128",
+    "128X64", "128X128", "4X16", "16X4", "8X32", "32X8", "16X64", "64X16",
 ];
 
 const PARTITIONS: [&str; 10] =
@@ -16,6 +16,7 @@ const PRECISIONS: [&str; 3] = ["NONE", "LOW", "HIGH"];
 
 const SQUARES: [usize; 4] = [3, 6, 9, 12];
 
+/// Those that have no side of 128 pixels.
 const ALL_SIZES: [usize; 19] = [0, 1, 2, 3, 4, 5, 6, 7, 8, 9, 10, 11, 12, 16, 17, 18, 19, 20, 21];
 
 /// Width and height of a size in units.

@@ -2,16 +2,18 @@
 //!
 //! usage: compare scripts PROGRAM FOLDER COUNT CALLS SEED
 //!        compare answers PROGRAM FOLDER COUNT CALLS SEED
+//!        compare outside
 //!        compare bench MIX ROUNDS
 //!
 //! `scripts` makes random scripts, runs them through the program and its accepted calls through rav1e, and compares;
-//! `answers` prints such scripts, of accepted calls alone, with rav1e's answers behind them; `bench` times rav1e's
-//! side, with the calls of the script MIX.
+//! `answers` prints such scripts, of accepted calls alone, with rav1e's answers behind them; `outside` prints what rav1e
+//! does with inputs that the program refuses; `bench` times rav1e's side, with the calls of the script MIX.
 
 #![allow(unexpected_cfgs, dead_code, non_camel_case_types, non_upper_case_globals)]
 
 mod bench;
 mod calls;
+mod outside;
 mod program;
 mod random;
 mod tile;
@@ -228,7 +230,9 @@ fn print_answers(program: &Program, count: u64, calls: usize, seed: u64) -> Resu
 }
 
 fn usage() -> ! {
-    eprintln!("usage: compare scripts|answers PROGRAM FOLDER COUNT CALLS SEED, or compare bench MIX ROUNDS");
+    eprintln!(
+        "usage: compare scripts|answers PROGRAM FOLDER COUNT CALLS SEED, compare outside, or compare bench MIX ROUNDS"
+    );
     exit(2)
 }
 
@@ -252,6 +256,7 @@ fn main() {
             };
             exit(i32::from(!fine))
         }
+        [what] if what == "outside" => outside::run(),
         [what, mix, rounds] if what == "bench" => bench::run(mix, number(rounds) as usize),
         _ => usage(),
     }
