@@ -2,8 +2,8 @@ use crate::reader::Reader;
 use crate::reader::fault::{ReadError, ReadFault, SymbolFault};
 use crate::state::Stage;
 use av1::{BlockSize, Cell, MvSubpelPrecision, PartitionType, Refusal, TileBlockOffset};
-use journal::Log;
-use record::{Entry, Source, SourceFault, WordRecord, WordSource};
+use journal::{Log, Spot, Window};
+use record::{Entry, Sink, Source, SourceFault, WordRecord, WordSource};
 use std::test::Fail;
 
 const EMPTY: Cell = Cell {
@@ -165,5 +165,61 @@ fn what_is_written_is_read_back(rt: HostRuntime) -> Result<(), Fail> {
 
     reader.reset_left_contexts();
     assert!(rt; reader.left()[0] == 0);
+    Ok(())
+}
+
+/// Of the questions that are answered by no the first is told, where the memory is one of them.
+#[test]
+fn the_first_no_is_told(rt: HostRuntime) -> Result<(), Fail> {
+    let mut map = [EMPTY; 4];
+    let mut none: [Cell; 0] = [];
+    assert!(rt; Stage::start(3, 2, 8, &mut none).err() == Some(Refusal::TileSize));
+    assert!(rt; Stage::start(2, 2, 8, &mut none).err() == Some(Refusal::LastSegment));
+    assert!(rt; Stage::start(2, 2, 7, &mut map[0..3]).err() == Some(Refusal::MapMemory));
+    let Ok(mut stage) = Stage::start(2, 2, 7, &mut map) else {
+        return Err(Fail::new("no start"));
+    };
+    let mut sink = WordRecord::new(rt.alloc(), 2)?;
+    let mut small = [Window {
+        first: 0,
+        words: [0; 4],
+    }];
+    let mut spots = [Spot::Left { at: 0, was: 0 }; 4];
+    let mut log = Log {
+        small: &mut small,
+        large: &mut [],
+        spots: &mut spots,
+    };
+    let wide = BlockSize::BLOCK_128X128;
+    let unmapped = stage.write_skip(&mut sink, &mut none, &mut log, ORIGIN, wide, true);
+    assert_eq!(rt; unmapped, Err(Refusal::MapMemory));
+    let unmapped = stage.write_segmentation(&mut sink, &mut none, &mut log, ORIGIN, wide, Some(9));
+    assert_eq!(rt; unmapped, Err(Refusal::MapMemory));
+
+    let entry = [entry(0, 2, 32768, 16384)];
+    assert!(rt; sink.put(entry[0]).is_ok());
+    assert_eq!(rt; stage.open_at(&sink), Ok(1));
+    let size = BlockSize::BLOCK_8X8;
+    assert_eq!(rt;
+        stage.write_skip(&mut sink, &mut map, &mut log, ORIGIN, size, true),
+        Ok(1)
+    );
+    assert!(rt; sink.cut(0).is_ok());
+    let short = Log {
+        small: &mut [],
+        large: &mut [],
+        spots: &mut [],
+    };
+    let before = map;
+    let words = *stage.words();
+    let back = stage.take_back_at(&mut sink, &mut none, &short, 2);
+    assert_eq!(rt; back, Err(Refusal::MapMemory));
+    let back = stage.take_back_at(&mut sink, &mut map, &short, 2);
+    assert_eq!(rt; back, Err(Refusal::LogRoom));
+    let back = stage.take_back_at(&mut sink, &mut map, &log, 2);
+    assert_eq!(rt; back, Err(Refusal::NotInnermost));
+    let back = stage.take_back_at(&mut sink, &mut map, &log, 1);
+    assert_eq!(rt; back, Err(Refusal::EntriesGone));
+    assert!(rt; map == before && *stage.words() == words && sink.count() == 0);
     Ok(())
 }
