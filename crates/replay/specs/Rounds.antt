@@ -7,7 +7,7 @@ use Rattle.cdf.specs.declared.entry.Entry.{Entry}
 use Rattle.cdf.specs.Lists.{Each}
 use Rattle.model.specs.Decisions.{State, stage, start_asked}
 use Rattle.model.specs.Runs as model
-use Rattle.model.specs.Runs.{or_else, question_of, reads}
+use Rattle.model.specs.Runs.{empty_book, or_else, question_of, reads}
 use Rattle.replay.specs.declared.book.Book.{Book}
 use Rattle.replay.specs.declared.book.Standing.{Standing}
 use Rattle.replay.specs.declared.round.Round.{Round}
@@ -15,10 +15,10 @@ use Rattle.replay.specs.declared.round.RoundError.{RoundError}
 use Rattle.replay.specs.declared.round.RoundError.TheVariants as error
 use Rattle.replay.specs.declared.write.ReplayError.{ReplayError}
 use Rattle.replay.specs.declared.write.ReplayError.TheVariants as replay
-use Rattle.replay.specs.Books.{in_book, kept, standing_calls}
+use Rattle.replay.specs.Books.{book, in_book, kept, standing_calls}
 use Rattle.replay.specs.Calls.{Answered}
 use Rattle.replay.specs.Reads.{reading_of, state_read}
-use Rattle.replay.specs.Runs.{standing, start_error}
+use Rattle.replay.specs.Runs.{book_of, standing, start_error}
 
 -- why no call is made: the memory for the answers is short, or the start of the stage or of the reader is refused
 abbrev pub round_asked : ℕ → ℕ → ℕ → ℕ → ℕ → ℕ → ℕ → Option ReplayError
@@ -37,9 +37,9 @@ MadeOf [] as' s = ⊥
 MadeOf (c ∷ cs) [] s = ⊥
 MadeOf (c ∷ cs) (a ∷ as') s = (s ≡ kept c a) ⊎ MadeOf cs as' s
 
--- a book has the calls that stand, each as it was made
+-- a book after these calls: it has those that stand, each as it was made
 pub record TookDown (calls : List Call) (answers : List Answered) (b : Book) : Type 0 where
-  pub stood : standing_calls (in_book b) ≡ standing calls answers
+  pub noted : book b ≡ book_of (empty_book stage) calls answers
   pub made : Each (MadeOf calls answers) (in_book b)
 
 -- the record is read by the questions of the calls that stand, over a map of so many cells

@@ -2,13 +2,13 @@ use Rattle.std.proofs.Common.{◌≡◌, ◌≤◌, ◌++◌, map, length, take,
 use Rattle.cdf.specs.Lists.{Each}
 use Rattle.model.specs.declared.Question.{Question}
 use Rattle.model.specs.Decisions.{Decision, stage}
-use Rattle.model.specs.Runs.{Book, question_of, reads}
+use Rattle.model.specs.Runs.{Book, empty_book, question_of, reads}
 use Rattle.model.specs.Worked.{start}
 use Rattle.replay.specs.Books.{in_book, standing_calls}
 use Rattle.replay.specs.Reads.{reading_of, state_read}
 use Rattle.replay.specs.Rounds.{MadeOf}
 use Rattle.replay.specs.Runs.{book_of, started}
-use Rattle.replay.proofs.Noting.{made_front}
+use Rattle.replay.proofs.Noting.{book_take, made_front}
 use Rattle.replay.proofs.Rounds.{all_written, as_many, book_few, came_back, none_taken, not_stopped, taken_stood}
 use Rattle.replay.proofs.Traces.{front_answers}
 use Rattle.stage.specs.View.{lanes}
@@ -38,10 +38,9 @@ returns-clause-book g c =
     let calls = c.args.calls.now in
     let answers = c.write_calls.new.answers in
     let taken = in_book c.note_all.new.taken in
-    let noted = ap (λ (b : Book Question Decision). b.standing) (c.note_all.ensures.noted ∙ ap (λ b. book_of b calls answers) c.in_ok-taken.ensures.empty) in
     let first = none_taken (in_book c.in_ok-taken.taken) (ap (λ (b : Book Question Decision). b.standing) c.in_ok-taken.ensures.empty) in
     record {
-      stood = taken_stood calls answers taken noted;
+      noted = c.note_all.ensures.noted ∙ ap (λ b. book_of b calls answers) c.in_ok-taken.ensures.empty ∙ book_take calls answers (empty_book stage);
       made = made_front calls answers taken (c.note_all.ensures.made (subst (Each (MadeOf calls answers)) (sym first) tt));
     }
 
