@@ -8,8 +8,8 @@
 
 use anyhow::anyhow;
 use coding::{code, read_file};
-use script::Script;
 use script::parse::parse;
+use script::{Script, ScriptError};
 use std::io::Read;
 use std::process::ExitCode;
 use std::{env, fs, io};
@@ -31,8 +31,7 @@ struct CommandLine {
     script: Option<String>,
 }
 
-fn arguments(rt: &HostRuntime) -> anyhow::Result<CommandLine> {
-    let mut args = env::args(rt)?;
+fn command_line(mut args: env::Args) -> anyhow::Result<CommandLine> {
     let _program = args.next();
     let first = args.next();
     let (task, script) = match first.as_deref() {
@@ -85,12 +84,19 @@ fn printed(rt: &HostRuntime, task: Task, script: &Script) -> anyhow::Result<Stri
     }
 }
 
-fn run(rt: &HostRuntime) -> anyhow::Result<ExitCode> {
-    let line = arguments(rt)?;
+/// What comes of a command line: what is to be printed, or what is wrong with the script.
+fn answer(rt: &HostRuntime, line: CommandLine) -> anyhow::Result<Result<String, ScriptError>> {
     let text = script_text(rt, line.script)?;
     match parse(rt.alloc(), text.as_str()) {
-        Ok(script) => {
-            let report = printed(rt, line.task, &script)?;
+        Ok(script) => Ok(Ok(printed(rt, line.task, &script)?)),
+        Err(e) => Ok(Err(e)),
+    }
+}
+
+/// Prints an answer, or on standard error what is wrong.
+fn tell(rt: &HostRuntime, answer: Result<String, ScriptError>) -> anyhow::Result<ExitCode> {
+    match answer {
+        Ok(report) => {
             rt.print(report.as_str())?;
             Ok(ExitCode::SUCCESS)
         }
@@ -99,6 +105,11 @@ fn run(rt: &HostRuntime) -> anyhow::Result<ExitCode> {
             Ok(ExitCode::FAILURE)
         }
     }
+}
+
+fn run(rt: &HostRuntime) -> anyhow::Result<ExitCode> {
+    let line = command_line(env::args(rt)?)?;
+    tell(rt, answer(rt, line)?)
 }
 
 fn main(rt: HostRuntime) -> ExitCode {
@@ -110,3 +121,6 @@ fn main(rt: HostRuntime) -> ExitCode {
         }
     }
 }
+
+#[cfg(test)]
+mod tests;
