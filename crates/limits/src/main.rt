@@ -3,6 +3,8 @@
 #![tactic(auto)]
 
 mod table;
+#[cfg(test)]
+mod tests;
 
 use crate::table::{Case, Wanted, cases};
 use anyhow::anyhow;

@@ -1,13 +1,18 @@
 -- The book, call by call.
-use Rattle.std.proofs.Common.{◌≡◌, ℕ, ◌+◌, ◌-◌, ◌<◌, ◌≤◌, List, [], ◌∷◌, map, length, reverse, get_or, take, drop, Some, sym, refl, ap, ◌∙◌, arith}
+use Rattle.std.proofs.Common.{◌≡◌, ℕ, zero, suc, ◌+◌, ◌-◌, ◌<◌, ◌≤◌, List, [], ◌∷◌, ◌++◌, map, length, reverse, get_or, take, drop, Some, sym, refl, ap, ◌∙◌, subst, inl, inr, arith}
 use Rattle.std.specs.List.{slice_get}
 use Rattle.std.proofs.lemmas.List.{at_drop_more, get_or-reverse, length-append, length-reverse, length-take, take-map}
 use Rattle.std.proofs.lemmas.Option.{get_or_from_slice_get}
+use Rattle.cdf.specs.Lists.{Each}
 use Rattle.av1.specs.declared.call.Call.{Call}
 use Rattle.model.specs.declared.Question.{Question}
 use Rattle.model.specs.Decisions.{Decision, stage}
 use Rattle.model.specs.Runs.{Asking, Book, Told, ask, cut_book, ended, keep, noted, open_trial, opened, refused, take_back, wrote}
+use Rattle.model.proofs.Trails.{each_append, each_take}
+use Rattle.replay.specs.declared.book.Standing.{Standing}
+use Rattle.replay.specs.Books.{kept}
 use Rattle.replay.specs.Calls.{Answered, asking}
+use Rattle.replay.specs.Rounds.{MadeOf}
 use Rattle.replay.specs.Runs.{book_of, told_of}
 
 cut_at_top : {A : Type 0} (xs : List A) (ns : List ℕ) → 0 < length ns → cut_book xs ns ≡ take (get_or ns 0 0) xs
@@ -31,6 +36,31 @@ pub noted_more : (cs : List Call) (as' : List Answered) (i : ℕ) (c : Call) (a 
 noted_more cs as' i c a b h k =
     at_drop_more (λ l. book_of b l (drop i as')) cs i c h
     ∙ at_drop_more (λ l. book_of b (get_or cs i c ∷ drop (i + 1) cs) l) as' i a k
+
+made_at : (cs : List Call) (as' : List Answered) (i : ℕ) (c : Call) (a : Answered) → i < length cs → i < length as' → MadeOf cs as' (kept (get_or cs i c) (get_or as' i a))
+made_at [] as' i c a h k = absurd (omega arith)
+made_at (x ∷ cs) [] i c a h k = absurd (omega arith)
+made_at (x ∷ cs) (y ∷ as') zero c a h k = inl refl
+made_at (x ∷ cs) (y ∷ as') (suc i) c a h k = inr (made_at cs as' i c a (omega arith) (omega arith))
+
+-- so that each call of the book is one of those that were taken down
+pub made_more : (cs : List Call) (as' : List Answered) (i : ℕ) (c : Call) (a : Answered) (old new : List Standing) → i < length cs → i < length as'
+    → new ≡ take (length new) (old ++ kept (get_or cs i c) (get_or as' i a) ∷ []) → Each (MadeOf cs as') old → Each (MadeOf cs as') new
+made_more cs as' i c a old new h k e before =
+    subst (Each (MadeOf cs as')) (sym e)
+    (each_take (MadeOf cs as') (length new) _ (each_append (MadeOf cs as') old (_ ∷ []) before (made_at cs as' i c a h k, tt)))
+
+-- answers behind those of the calls do not matter
+pub made_front : (cs : List Call) (as' : List Answered) (ss : List Standing) → Each (MadeOf cs as') ss → Each (MadeOf cs (take (length cs) as')) ss
+made_front cs as' [] e = tt
+made_front cs as' (s ∷ ss) e =
+    (front cs as' e.0, made_front cs as' ss e.1)
+  where
+    front : (cs : List Call) (as' : List Answered) → MadeOf cs as' s → MadeOf cs (take (length cs) as') s
+    front [] as' m = m
+    front (c ∷ cs) [] m = m
+    front (c ∷ cs) (a ∷ as') (inl e) = inl e
+    front (c ∷ cs) (a ∷ as') (inr m) = inr (front cs as' m)
 
 -- a book has no more calls than were taken down
 pub standing_few : (cs : List Call) (as' : List Answered) (b : Book Question Decision) → length (book_of b cs as').standing ≤ length b.standing + length cs

@@ -2,6 +2,7 @@
 use Rattle.std.proofs.Common.{◌≡◌, ℕ, ◌+◌, ◌*◌, ◌<◌, ◌≤◌, leb, leb→le, Bool, true, false, cond, List, [], ◌∷◌, ◌++◌, map, length, get_or, take, drop, set, Ok, Err, Some, None, Option, Result, IfOk, sym, refl, ap, ap₂, ◌∙◌, subst, arith}
 use Rattle.std.specs.Result.{MatchResult, IsOkAnd, result_map_both}
 use Rattle.std.proofs.lemmas.List.{drop_all, at_drop_more, take_more_set, map-append}
+use Rattle.cdf.specs.Lists.{Each}
 use Rattle.cdf.specs.declared.entry.Entry.{Entry}
 use Rattle.av1.specs.declared.call.Call.{Call}
 use Rattle.av1.specs.declared.call.Call.TheVariants as call
@@ -19,11 +20,12 @@ use Rattle.model.specs.Reading as by_step
 use Rattle.model.specs.Runs as model
 use Rattle.model.specs.Runs.{Reading, Stop, World, all_read, stopped, with_first, reads, run, fresh, empty_book, question_of}
 use Rattle.model.proofs.Staged.{stage_reads_record}
+use Rattle.model.proofs.Trails.{each_append}
 use Rattle.model.proofs.Standing.{or_else_second, unless_true}
 use Rattle.replay.specs.declared.book.Standing.{Standing}
 use Rattle.replay.specs.declared.read.ReadRun.{ReadRun}
 use Rattle.replay.specs.declared.write.ReplayError.{ReplayError}
-use Rattle.replay.specs.Books.{standing_calls}
+use Rattle.replay.specs.Books.{standing_calls, Stands}
 use Rattle.replay.specs.Calls.{Answered, asking}
 use Rattle.replay.specs.Reads.{call_read, call_seen, left_by, reading_of, state_read, stood_of, with_question, ReadsBackTo}
 use Rattle.replay.specs.Runs.{ran, standing, Outcome}
@@ -105,6 +107,10 @@ module _ (memory : ℕ) (es : List Entry) (qs : List Question) (i : ℕ) (answer
       ∙ sym (stopped_firsts before t (drop k es) k (stop_of why))
       ∙ sym (ap (with_firsts before) (refused_on memory es (get_or qs i q) (λ u j. by_step.read_each memory es (drop (i + 1) qs) u j) (read_step memory es (get_or qs i q) s p) (stop_of why) t k (read ∙ as_here q)))
       ∙ here q
+
+-- one answer more that stands
+pub stands_more : (answers : List Standing) (i : ℕ) (a : Standing) → i < length answers → Each Stands (take i answers) → Stands a → Each Stands (take (i + 1) (set answers i a))
+stands_more answers i a room stood more = subst (Each Stands) (sym (take_more_set answers i a room)) (each_append Stands (take i answers) (a ∷ []) stood (more, tt))
 
 -- all questions are answered
 pub all_answered : (memory : ℕ) (es : List Entry) (qs : List Question) (i : ℕ) (answers : List Standing) (s : State) (p : ℕ) (all : Reading stage) (now : List Entry) → i ≡ length qs → now ≡ es

@@ -3,7 +3,7 @@ use Rattle.std.proofs.Common.{◌≡◌, ℕ, ◌≤◌, List, [], ◌++◌, map
 use mathlib.Core.Option.{none}
 use Rattle.std.proofs.Math.Seq.{take-append_seam}
 use Rattle.std.proofs.lemmas.Bool.{le-leb}
-use Rattle.std.proofs.lemmas.List.{length-map}
+use Rattle.std.proofs.lemmas.List.{length-map, nil_from_length}
 use Rattle.cdf.specs.declared.entry.Entry.{Entry}
 use Rattle.av1.specs.declared.call.Call.{Call}
 use Rattle.model.specs.declared.Question.{Question}
@@ -35,6 +35,10 @@ taken_stood calls answers taken noted = noted ∙ ap (λ (b : Book Question Deci
 -- a memory that was written whole
 pub all_written : {A : Type 0} (n : ℕ) (l old : List A) → length l ≡ n → take n (l ++ drop (length l) old) ≡ l
 all_written n l old e = ap (λ k. take k (l ++ drop (length l) old)) (sym e) ∙ take-append_seam l (drop (length l) old)
+
+-- a book that has no calls
+pub none_taken : (ss : List Standing) → standing_calls ss ≡ [] → ss ≡ []
+none_taken ss e = nil_from_length ss (sym (length-map ss stood_of) ∙ ap length e)
 
 -- as many questions as calls
 pub as_many : (taken : List Standing) (questions : List Question) → questions ≡ map (question_of stage) (standing_calls taken) → length questions ≡ length taken

@@ -1,7 +1,7 @@
-ghost use Rattle.std.specs.Prelude.{◌≡◌, ℕ, ◌+◌, IfOk, OnErr, OnOk, is_ok, true};
+ghost use Rattle.std.specs.Prelude.{◌≡◌, ℕ, ◌+◌, ◌++◌, [], ◌∷◌, length, take, IfOk, OnErr, OnOk, is_ok, true};
 ghost use Rattle.model.specs.Decisions.{stage as subject};
 ghost use Rattle.model.specs.Runs.{cut, empty_book, noted, take_back};
-ghost use Rattle.replay.specs.Books.{book, standing_calls, Room};
+ghost use Rattle.replay.specs.Books.{book, in_book, kept, Room};
 ghost use Rattle.replay.specs.Calls.{asking};
 ghost use Rattle.replay.specs.Runs.{told_of};
 
@@ -47,6 +47,7 @@ impl Book {
     // The calls since the innermost trial was opened go; the number at which it was opened stays.
     fn cut(&mut self)
         ensures cut { book self.new ≡ cut (book self.old) (take_back 0) }
+        ensures kept { in_book self.new ≡ take (length (in_book self.new)) (in_book self.old) }
         ensures room { (n : ℕ) → Room (n + 1) self.old → Room n self.new }
     {
         if let Some(number) = self.numbers.last() {
@@ -57,6 +58,7 @@ impl Book {
     /// Takes down a call and what it answered. While as many calls were taken down as the book has room for, it does.
     pub fn note(&mut self, call: Call, answer: Result<Answer, Refusal>) -> Result<(), AllocError>
         ensures noted { OnOk result (book self.new ≡ noted (book self.old) (asking call) (told_of call answer)) }
+        ensures kept { OnOk result (in_book self.new ≡ take (length (in_book self.new)) (in_book self.old ++ kept call answer ∷ [])) }
         ensures still { OnErr result (book self.new ≡ book self.old) }
         ensures room { (n : ℕ) → Room (n + 1) self.old → (is_ok result ≡ true) × Room n self.new }
     {
@@ -81,7 +83,7 @@ impl Book {
 
     /// The calls that stand, in order.
     pub fn standing(&self) -> &[Standing]
-        ensures { standing_calls result.now ≡ (book self.now).standing }
+        ensures { result.now ≡ in_book self.now }
     {
         self.standing.as_slice()
     }

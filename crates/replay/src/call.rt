@@ -1,4 +1,4 @@
-ghost use Rattle.std.specs.Prelude.{◌≡◌, List, length, drop};
+ghost use Rattle.std.specs.Prelude.{◌≡◌, false, List, length, drop, is_ok};
 ghost use Rattle.replay.specs.Calls.{call_step};
 ghost use Rattle.stage.specs.Lanes.{SameMemory};
 ghost use Rattle.stage.specs.View.{lanes, units_of, world};
@@ -19,6 +19,7 @@ pub fn make_call<S: Sink>(
     ensures step { (result, world stage.new map.new (lanes log.new) (S.Sink.list sink.new)) ≡ call_step (length map.old) (S.Sink.rooms sink.old) call (world stage.old map.old (lanes log.old) (S.Sink.list sink.old)) }
     ensures behind { drop (units_of stage.old) map.new ≡ drop (units_of stage.old) map.old }
     ensures rooms { S.Sink.rooms sink.new ≡ S.Sink.rooms sink.old }
+    ensures still { is_ok result ≡ false → (stage.new ≡ stage.old) × (sink.new ≡ sink.old) × (map.new ≡ map.old) }
     ensures memory { SameMemory log.new log.old }
 {
     match call {

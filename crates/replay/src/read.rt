@@ -1,7 +1,9 @@
-ghost use Rattle.std.specs.Prelude.{◌≡◌, ◌*◌, ◌≤◌, false, length, drop, is_ok, IfOk};
+ghost use Rattle.std.specs.Prelude.{◌≡◌, ◌*◌, ◌≤◌, false, length, take, drop, is_ok, IfOk};
+ghost use Rattle.cdf.specs.Lists.{Each};
 ghost use Rattle.model.specs.Decisions.{stage as subject};
 ghost use Rattle.model.specs.Runs.{reads};
 ghost use Rattle.model.specs.Worked.{start};
+ghost use Rattle.replay.specs.Books.{Stands};
 ghost use Rattle.replay.specs.Reads.{call_read, call_seen, reading_of, answered_first, state_read, units_read, stood_of, ReadsBackTo};
 ghost use Rattle.replay.specs.Runs.{stopped_by, write_asked};
 
@@ -57,6 +59,7 @@ pub fn read_call<Q: Source>(
     question: Question,
 ) -> Result<Standing, ReadError>
     ensures step { (call_seen result, state_read reader.new map.new, Q.Source.place source.new) ≡ call_read (length map.old) (Q.Source.list source.old) question (state_read reader.old map.old) (Q.Source.place source.old) }
+    ensures stands { IfOk result (λ s. Stands s) }
     ensures behind { drop (units_read reader.old) map.new ≡ drop (units_read reader.old) map.old }
     ensures list { Q.Source.list source.new ≡ Q.Source.list source.old }
     ensures still { is_ok result ≡ false → (reader.new ≡ reader.old) × (map.new ≡ map.old) }
@@ -145,6 +148,7 @@ fn read_each<Q: Source>(
 ) -> Option<(usize, ReadError)>
     requires { length questions.now ≤ length answers.old }
     ensures reading { reading_of (length questions.now) result answers.new (state_read reader.new map.new) (Q.Source.list source.new) (Q.Source.place source.new) ≡ reads subject (length map.old) (state_read reader.old map.old) questions.now (drop (Q.Source.place source.old) (Q.Source.list source.old)) (Q.Source.place source.old) }
+    ensures stands { Each Stands (take (answered_first (length questions.now) result) answers.new) }
     ensures list { Q.Source.list source.new ≡ Q.Source.list source.old }
     ensures behind { drop (units_read reader.old) map.new ≡ drop (units_read reader.old) map.old }
     ensures rest { drop (answered_first (length questions.now) result) answers.new ≡ drop (answered_first (length questions.now) result) answers.old }
@@ -182,6 +186,7 @@ pub fn read_calls<Q: Source>(
     ensures asked { stopped_by result ≡ write_asked columns rows last (length map.old) (length questions.now) (length answers.old) }
     ensures reading { IfOk result (λ r. reading_of (length questions.now) r.stop answers.new (state_read r.reader map.new) (Q.Source.list source.new) (Q.Source.place source.new) ≡ reads subject (length map.old) (start columns rows last) questions.now (drop (Q.Source.place source.old) (Q.Source.list source.old)) (Q.Source.place source.old)) }
     ensures back { IfOk result (λ r. Q.Source.place source.old ≡ 0 → ReadsBackTo (start columns rows last) (Q.Source.list source.old) questions.now r.stop answers.new (state_read r.reader map.new) (Q.Source.place source.new)) }
+    ensures stands { IfOk result (λ r. Each Stands (take (answered_first (length questions.now) r.stop) answers.new)) }
     ensures list { Q.Source.list source.new ≡ Q.Source.list source.old }
     ensures behind { drop (columns * rows) map.new ≡ drop (columns * rows) map.old }
     ensures rest { IfOk result (λ r. drop (answered_first (length questions.now) r.stop) answers.new ≡ drop (answered_first (length questions.now) r.stop) answers.old) }

@@ -1,7 +1,9 @@
-ghost use Rattle.std.specs.Prelude.{◌≡◌, ℕ, ◌*◌, false, [], length, drop, is_ok, IfOk};
+ghost use Rattle.std.specs.Prelude.{◌≡◌, ℕ, ◌*◌, false, [], length, take, drop, is_ok, IfOk};
+ghost use Rattle.cdf.specs.Lists.{Each};
 ghost use Rattle.model.specs.Decisions.{stage as subject};
 ghost use Rattle.model.specs.Runs.{reads};
 ghost use Rattle.model.specs.Worked.{start};
+ghost use Rattle.replay.specs.Books.{Stands};
 ghost use Rattle.replay.specs.Reads.{reading_of, answered_first, state_read, ReadsBackTo};
 ghost use Rattle.replay.specs.Runs.{stopped_by, write_asked};
 
@@ -27,6 +29,7 @@ pub trait ReadBack: Sink {
     ) -> Result<ReadRun, ReplayError>
         ensures asked { stopped_by result ≡ write_asked columns rows last (length map.old) (length questions.now) (length answers.old) }
         ensures read { IfOk result (λ r. (place : ℕ) × (reading_of (length questions.now) r.stop answers.new (state_read r.reader map.new) (Self.Sink.list self.now) place ≡ reads subject (length map.old) (start columns rows last) questions.now (Self.Sink.list self.now) 0) × ReadsBackTo (start columns rows last) (Self.Sink.list self.now) questions.now r.stop answers.new (state_read r.reader map.new) place) }
+        ensures stands { IfOk result (λ r. Each Stands (take (answered_first (length questions.now) r.stop) answers.new)) }
         ensures behind { drop (columns * rows) map.new ≡ drop (columns * rows) map.old }
         ensures rest { IfOk result (λ r. drop (answered_first (length questions.now) r.stop) answers.new ≡ drop (answered_first (length questions.now) r.stop) answers.old) }
         ensures still { is_ok result ≡ false → (map.new ≡ map.old) × (answers.new ≡ answers.old) };

@@ -1,10 +1,12 @@
 ghost use Rattle.std.specs.Prelude.{◌≡◌, ◌+◌, ◌*◌, ◌≤◌, ◌++◌, false, [], length, map, take, drop, is_ok, IfOk, vec_capacity, vec_items, vec_len};
+ghost use Rattle.cdf.specs.Lists.{Each};
 ghost use Rattle.model.specs.Decisions.{stage as subject};
 ghost use Rattle.model.specs.Runs.{question_of};
 ghost use Rattle.model.specs.Worked.{start};
-ghost use Rattle.replay.specs.Books.{book, standing_calls, Room};
-ghost use Rattle.replay.specs.Rounds.{round_asked, CameBack, StoppedBy};
-ghost use Rattle.replay.specs.Runs.{ran, started, book_of, core_of, NoTraceOf, ToldApart, RefusedWhereAsked};
+ghost use Rattle.replay.specs.Books.{book, in_book, standing_calls, Room, Stands};
+ghost use Rattle.replay.specs.Reads.{answered_first};
+ghost use Rattle.replay.specs.Rounds.{round_asked, CameBack, MadeOf, RoundReads, StoppedBy, TookDown};
+ghost use Rattle.replay.specs.Runs.{ran, started, standing, book_of, core_of, NoTraceOf, ToldApart, RefusedWhereAsked};
 ghost use Rattle.replay.specs.declared.round.RoundError.TheVariants.{Memory, Replay};
 ghost use Rattle.replay.specs.declared.write.ReplayError.TheVariants.{Start};
 ghost use Rattle.stage.specs.Lanes.{SameMemory};
@@ -56,7 +58,8 @@ impl From<Refusal> for RoundError {
 fn note_all(taken: &mut Book, calls: &[Call], answers: &[Result<Answer, Refusal>])
     requires room { Room (length calls.now) taken.old }
     requires answered { length calls.now ≤ length answers.now }
-    ensures { book taken.new ≡ book_of (book taken.old) calls.now answers.now }
+    ensures noted { book taken.new ≡ book_of (book taken.old) calls.now answers.now }
+    ensures made { Each (MadeOf calls.now answers.now) (in_book taken.old) → Each (MadeOf calls.now answers.now) (in_book taken.new) }
 {
     for (i, call) in calls.iter().enumerate() {
         let Ok(()) = taken.note(*call, answers[i]) else {
@@ -109,6 +112,9 @@ pub fn write_and_read<S: ReadBack>(
     ensures refused { IfOk result (λ r. RefusedWhereAsked (length map.old) (S.Sink.rooms sink.old) (started (start columns rows last) (lanes log.old) (S.Sink.list sink.old)) calls.now (take (length calls.now) answers.new)) }
     ensures trace { IfOk result (λ r. S.Sink.list sink.old ≡ [] → NoTraceOf (S.Sink.rooms sink.old) (start columns rows last) calls.now (take (length calls.now) answers.new) (core_of r.stage map.new (S.Sink.list sink.new))) }
     ensures apart { IfOk result (λ r. S.Sink.list sink.old ≡ [] → ToldApart (start columns rows last) calls.now (take (length calls.now) answers.new) (S.Sink.list sink.new)) }
+    ensures book { IfOk result (λ r. TookDown calls.now (take (length calls.now) answers.new) r.book) }
+    ensures reading { IfOk result (λ r. RoundReads (length reader_map.old) (start columns rows last) (standing calls.now (take (length calls.now) answers.new)) (S.Sink.list sink.new) r reader_map.new) }
+    ensures stands { IfOk result (λ r. Each Stands (take (answered_first (length (in_book r.book)) r.run.stop) (vec_items r.read))) }
     ensures back { IfOk result (λ r. S.Sink.list sink.old ≡ [] → CameBack calls.now (take (length calls.now) answers.new) r (state_of r.stage map.new) reader_map.new) }
     ensures behind { (drop (columns * rows) map.new ≡ drop (columns * rows) map.old) × (drop (columns * rows) reader_map.new ≡ drop (columns * rows) reader_map.old) }
     ensures rooms { S.Sink.rooms sink.new ≡ S.Sink.rooms sink.old }

@@ -1,4 +1,5 @@
-//! temuvald [--packed FILE] [--state FILE] [--read FILE] [SCRIPT]
+//! temuvald [--packed FILE] [--state FILE] [SCRIPT]
+//! temuvald --read FILE [SCRIPT]
 //!
 //! Codes a script of calls, and prints what each call answered, how large the record is, and a digest of the final
 //! state. The script is the file that is named, or else the standard input. With `--packed` the packed record is written
@@ -8,8 +9,8 @@
 
 use anyhow::anyhow;
 use coding::{code, read_file};
-use script::Script;
 use script::parse::parse;
+use script::{Script, ScriptError};
 use std::io::Read;
 use std::process::ExitCode;
 use std::{env, fs, io};
@@ -41,14 +42,13 @@ fn name(file: &mut Option<String>, path: Option<String>) -> anyhow::Result<()> {
     Ok(())
 }
 
-fn arguments(rt: &HostRuntime) -> anyhow::Result<CommandLine> {
+fn command_line(mut args: env::Args) -> anyhow::Result<CommandLine> {
     let mut line = CommandLine {
         packed: None,
         state: None,
         read: None,
         script: None,
     };
-    let mut args = env::args(rt)?;
     let _program = args.next();
     while let Some(arg) = args.next() {
         match arg.as_str() {
@@ -106,12 +106,19 @@ fn printed(rt: &HostRuntime, line: CommandLine, script: &Script) -> anyhow::Resu
     Ok(coding.report)
 }
 
-fn run(rt: &HostRuntime) -> anyhow::Result<ExitCode> {
-    let mut line = arguments(rt)?;
+/// What comes of a command line: what is to be printed, or what is wrong with the script.
+fn answer(rt: &HostRuntime, mut line: CommandLine) -> anyhow::Result<Result<String, ScriptError>> {
     let text = script_text(rt, line.script.take())?;
     match parse(rt.alloc(), text.as_str()) {
-        Ok(script) => {
-            let report = printed(rt, line, &script)?;
+        Ok(script) => Ok(Ok(printed(rt, line, &script)?)),
+        Err(e) => Ok(Err(e)),
+    }
+}
+
+/// Prints an answer, or on standard error what is wrong.
+fn tell(rt: &HostRuntime, answer: Result<String, ScriptError>) -> anyhow::Result<ExitCode> {
+    match answer {
+        Ok(report) => {
             rt.print(report.as_str())?;
             Ok(ExitCode::SUCCESS)
         }
@@ -120,6 +127,11 @@ fn run(rt: &HostRuntime) -> anyhow::Result<ExitCode> {
             Ok(ExitCode::FAILURE)
         }
     }
+}
+
+fn run(rt: &HostRuntime) -> anyhow::Result<ExitCode> {
+    let line = command_line(env::args(rt)?)?;
+    tell(rt, answer(rt, line)?)
 }
 
 fn main(rt: HostRuntime) -> ExitCode {
@@ -131,3 +143,6 @@ fn main(rt: HostRuntime) -> ExitCode {
         }
     }
 }
+
+#[cfg(test)]
+mod tests;

@@ -2,7 +2,7 @@ use Rattle.std.proofs.Common.{◌≡◌, length, sym, ◌∙◌, arith, rules}
 use Rattle.std.proofs.lemmas.Grind.{common_steps}
 use Rattle.model.proofs.ReadSteps.{reads_by_step}
 use Rattle.replay.specs.Reads.{state_read, units_read}
-use Rattle.replay.proofs.Reading.{answered_more, refused_here, all_answered}
+use Rattle.replay.proofs.Reading.{answered_more, refused_here, all_answered, stands_more}
 use Rattle.replay.proofs.Units.{read_units}
 use Rattle.replay.proofs.read.read_each.Goals as goal
 
@@ -29,6 +29,7 @@ loop-i-preserved g c =
       list = c.in-Ok.ensures.list ∙ inv.list;
       units = same ∙ inv.units;
       behind = cc;
+      stands = stands_more c.loop-i.answers c.loop-i.i c.in-Ok.answer (omega arith) inv.stands c.in-Ok.ensures.stands;
       rest = grind (arith, common_steps, inv.rest);
       left = answered_more n es qs c.loop-i.i c.loop-i.answers here p _ (search rules) inv.list (omega arith) inv.left _ c.in-Ok.answer _ _ (omega arith) c.in-Ok.ensures.step;
     }

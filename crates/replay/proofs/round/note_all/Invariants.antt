@@ -1,5 +1,7 @@
 use Rattle.std.proofs.Common.{◌≡◌, ◌-◌, length, drop}
-use Rattle.replay.specs.Books.{book, Room}
+use Rattle.cdf.specs.Lists.{Each}
+use Rattle.replay.specs.Books.{book, in_book, Room}
+use Rattle.replay.specs.Rounds.{MadeOf}
 use Rattle.replay.specs.Runs.{book_of}
 use Rattle.replay.proofs.round.note_all.Given as goal
 
@@ -8,5 +10,6 @@ abbrev pub invariant-loop-i : goal.invariant-loop-i
 invariant-loop-i l =
     record {
       room : Room (length l.calls - l.i) l.taken;
+      made : Each (MadeOf l.calls l.answers) (in_book l.initial.taken) → Each (MadeOf l.calls l.answers) (in_book l.taken);
       left : book_of (book l.taken) (drop l.i l.calls) (drop l.i l.answers) ≡ book_of (book l.initial.taken) l.calls l.answers;
     }
