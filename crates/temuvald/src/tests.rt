@@ -81,7 +81,10 @@ const WRONG: [(&[&str], &str); 8] = [
     (&["example.script", "--state"], USAGE),
     (&["--read"], USAGE),
     (&["one", "two"], USAGE),
-    (&["--state", "one", "--state", "two", "example.script"], USAGE),
+    (
+        &["--state", "one", "--state", "two", "example.script"],
+        USAGE,
+    ),
     (
         &["--read", "one", "--packed", "two", "example.script"],
         USAGE,
