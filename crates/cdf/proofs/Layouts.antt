@@ -7,7 +7,7 @@ use Rattle.std.proofs.lemmas.List.{length-take, length-drop, get_or_past}
 use Rattle.std.proofs.lemmas.List.Folds.{Any-from_list_any}
 use Rattle.std.proofs.lemmas.List.Recursion.{and_at, and_from_places}
 use Rattle.std.proofs.lemmas.List.Sums.{AllPass-from_list_all}
-use Rattle.cdf.specs.Layout.{words_in_all, tables, small_tables, large_tables, fillers, descends, all_descend, all_zero, lawful, table_sizes, in_layout, WordsStaySound}
+use Rattle.cdf.specs.Layout.{words_in_all, tables, small_tables, large_tables, fillers, descends, all_descend, all_zero, lawful, table_sizes, in_layout, OneLayout, WordsStaySound}
 use Rattle.cdf.specs.Words.{Words, Table, table, words_of, updated, adapted, Descends}
 use Rattle.cdf.proofs.Adapting.{table_stays_lawful, length_moved}
 use Rattle.cdf.proofs.Ranges.{all_below, true_below}
@@ -16,6 +16,10 @@ use Rattle.cdf.proofs.Stores.{sets_before, sets_behind, sets_there, getD_sets_ou
 pub sizes_number : length table_sizes ≡ words_in_all
 unfolding table_sizes
 sizes_number = refl
+
+pub one_layout : OneLayout
+unfolding tables small_tables large_tables fillers table_sizes
+one_layout = record { small = refl; large = refl; number = refl; others = refl; words = refl }
 
 -- what holds of the table at each word where one begins holds of each table of the layout
 pub each_table : (P : Table → Bool) → T (all_below words_in_all (λ f. eqb (get_or table_sizes f 0) 0 || P (table f (get_or table_sizes f 0)))) → (t : Table) → in_layout t ≡ true → P t ≡ true

@@ -1,5 +1,5 @@
 -- Where the tables lie in the 430 words, and when words are lawful.
-use Rattle.std.specs.Prelude.{◌≡◌, ℕ, zero, suc, ◌+◌, ◌-◌, Bool, true, false, ◌&&◌, List, [], ◌∷◌, ◌++◌, length, replicate, ◌==◌, nat_le, nat_lt, slice_index}
+use Rattle.std.specs.Prelude.{◌≡◌, ℕ, zero, suc, ◌+◌, ◌-◌, Bool, true, false, cond, ◌&&◌, List, [], ◌∷◌, ◌++◌, map, length, sum, replicate, ◌==◌, nat_le, nat_lt, slice_index}
 use Rattle.cdf.specs.Lists.{from}
 use Rattle.cdf.specs.Words.{Words, Table, table, words_of, updated}
 
@@ -79,6 +79,19 @@ component_sizes rest = sizes_of 14 2 (sizes_of 3 4 (sizes_of 1 11 (replicate 5 0
 unfoldable pub table_sizes : List ℕ
 table_sizes =
     sizes_of 3 2 (sizes_of 4 4 (sizes_of 1 8 (sizes_of 3 8 (sizes_of 4 8 (sizes_of 12 10 (sizes_of 6 16 (sizes_of 1 4 (replicate 12 0 ++ component_sizes (component_sizes [])))))))))
+
+-- the tables that sizes list word by word, from word i on, of those whose number of symbols is taken
+abbrev pub listed : (ℕ → Bool) → ℕ → List ℕ → List Table
+listed taken i [] = []
+listed taken i (n ∷ ns) = cond (taken n) (table i n ∷ listed taken (suc i) ns) (listed taken (suc i) ns)
+
+-- the sizes list each table and no other: 70 tables, which with 22 fillers take all words
+pub record OneLayout : Type 0 where
+  pub small : listed (λ n. nat_le 1 n && nat_le n 4) 0 table_sizes ≡ small_tables
+  pub large : listed (λ n. nat_lt 4 n) 0 table_sizes ≡ large_tables
+  pub number : length tables ≡ 70
+  pub others : length fillers ≡ 22
+  pub words : sum (map (λ t. t.count) tables) + length fillers ≡ words_in_all
 
 -- the layout has this table
 unfoldable pub in_layout : Table → Bool

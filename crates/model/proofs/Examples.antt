@@ -15,7 +15,7 @@ use Rattle.model.specs.Worked.{StartsSound, Worked, start}
 -- The worked examples hold, and a start is sound.
 pub works : Worked
 unfolding start start_words class_of
-works = (refl, refl, refl, refl, refl, refl, refl, refl, refl)
+works = (refl, refl, refl, refl, refl, refl, refl, refl, refl, refl, refl, refl)
 
 words_sound : SoundWords start_words
 unfolding start_words lawful tables small_tables large_tables fillers

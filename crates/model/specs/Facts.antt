@@ -23,7 +23,7 @@ use Rattle.model.specs.Tree.{Leads, read, read_as}
 use Rattle.model.specs.Vector.{has_row, has_col, path_if, vector_path}
 use Rattle.model.specs.Runs.{Ran, run, fresh, empty_book, ask, open_trial, take_back, keep, asked, sent, settle, read_asked, reads, stopped, fault}
 use Rattle.model.specs.Decisions.{State, Sound, Decision, stage, in_tile, settled, units, above_length, left_length, bit, tree, path, decided, spots, placed, allowed}
-use Rattle.model.specs.Worked.{start}
+use Rattle.model.specs.Worked.{start, entry}
 
 -- a spot lies inside
 abbrev pub Inside : State → Spot → Type 0
@@ -75,14 +75,11 @@ ReadsSound =
     (memory : ℕ) (s : State) (q : Question) (es rest : List Entry) (place after : ℕ) (d : Decision q) (w : Words) → Sound s → read_asked stage memory s q ≡ none
     → read s.words (tree s q) place 0 place es ≡ read_as d w rest after → Sound (settle stage s q d w)
 
--- a context bit says that the neighbour is narrower, or fl-at, than the block of size 8 × 2^j
+-- a context bit says that the neighbour is narrower, or lower, than the block of size 8 × 2^j
 abbrev pub ContextBits : Type 0
 ContextBits =
     (z : BlockSize) (j : ℕ) → j < 4
     → (bit j (above_byte z) ≡ cond (nat_lt (width z) (8 * 2 ^ j)) 1 0) × (bit j (left_byte z) ≡ cond (nat_lt (height z) (8 * 2 ^ j)) 1 0)
-
-abbrev pub entry : ℕ → ℕ → ℕ → ℕ → Entry
-entry s n fl fh = record { s = s; n = n; fl = fl; fh = fh }
 
 -- what a fault tells: no next entry; an entry that does not fit, in a vector's second symbol; a segment's symbol above the last; a reader stays where it was
 abbrev pub Faults : Type 0

@@ -1,4 +1,4 @@
-ghost use Rattle.std.specs.Prelude.{◌≡◌, ◌-◌, ◌*◌, ◌/◌, ◌≤◌, min, [], length, take, cond, nat_le, Some, None, IfOk, IfSome, vec_len, vec_capacity};
+ghost use Rattle.std.specs.Prelude.{◌≡◌, ◌-◌, ◌*◌, ◌/◌, ◌≤◌, min, true, [], length, take, cond, nat_le, Some, None, is_ok, IfOk, IfSome, vec_len, vec_capacity};
 ghost use Rattle.packed.specs.Packing.{packed, unpacked, ends_from, Whole};
 ghost use Rattle.std.proofs.Common.{arith};
 ghost use Rattle.packed.specs.Laws.{packed_laws};
@@ -25,9 +25,12 @@ pub struct PackedRecord {
 }
 
 impl PackedRecord {
-    /// An empty record of `places` bytes, of which at most 67,108,864 are used.
+    /// An empty record of `places` bytes, of which at most 67,108,864 are used, in memory for just so many and for the
+    /// ends of as many entries as they can hold. With no place none is asked for, so that it cannot fail.
     pub fn new(heap: Global, places: usize) -> Result<PackedRecord, AllocError>
-        ensures { IfOk result (λ p. (p.bytes.items ≡ []) × (p.places ≡ min places 67108864)) }
+        ensures made { IfOk result (λ p. (p.bytes.items ≡ []) × (p.places ≡ min places 67108864)) }
+        ensures memory { IfOk result (λ p. (vec_capacity p.bytes ≡ p.places) × (vec_capacity p.ends ≡ p.places / 4)) }
+        ensures without { places ≡ 0 → is_ok result ≡ true }
     {
         let places = places.min(67_108_864);
         let bytes = Vec::with_capacity(heap, places)?;

@@ -1,4 +1,4 @@
-ghost use Rattle.std.specs.Prelude.{◌≡◌, ◌+◌, ◌≤◌, ◌++◌, length, IfOk, vec_len, vec_capacity};
+ghost use Rattle.std.specs.Prelude.{◌≡◌, ◌+◌, ◌≤◌, ◌++◌, true, [], length, is_ok, IfOk, vec_len, vec_capacity};
 ghost use Rattle.packed.specs.Packing.{groups, packed_entry, packed};
 
 use cdf::Entry;
@@ -66,9 +66,11 @@ pub(crate) fn push_entry(bytes: &mut Vec<u8>, e: Entry)
     push_number(bytes, e.fh);
 }
 
-/// The entries of a sink, packed.
+/// The entries of a sink, packed, in memory for just so many bytes. No entries take none, so that it cannot fail.
 pub fn pack<S: Sink>(heap: Global, sink: &S) -> Result<Vec<u8>, AllocError>
-    ensures { IfOk result (λ v. v.items ≡ packed (S.Sink.list sink.now)) }
+    ensures value { IfOk result (λ v. v.items ≡ packed (S.Sink.list sink.now)) }
+    ensures memory { IfOk result (λ v. vec_capacity v ≡ vec_len v) }
+    ensures without { S.Sink.list sink.now ≡ [] → is_ok result ≡ true }
 {
     let mut bytes = Vec::with_capacity(heap, packed_bytes(sink))?;
     for i in 0..sink.count() {

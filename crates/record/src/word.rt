@@ -1,4 +1,4 @@
-ghost use Rattle.std.specs.Prelude.{◌≡◌, ◌-◌, ◌≤◌, min, [], length, IfOk, vec_len, vec_capacity};
+ghost use Rattle.std.specs.Prelude.{◌≡◌, ◌-◌, ◌≤◌, min, true, [], length, is_ok, IfOk, vec_len, vec_capacity};
 ghost use Rattle.std.proofs.Common.{arith};
 ghost use Rattle.std.proofs.lemmas.List.{length_push};
 
@@ -18,9 +18,12 @@ pub struct WordRecord {
 }
 
 impl WordRecord {
-    /// An empty record of `places` places, of which at most 16,777,216 are used.
+    /// An empty record of `places` places, of which at most 16,777,216 are used, in memory for just so many. With no
+    /// place none is asked for, so that it cannot fail.
     pub fn new(heap: Global, places: usize) -> Result<WordRecord, AllocError>
-        ensures { IfOk result (λ w. (w.entries.items ≡ []) × (w.places ≡ min places 16777216)) }
+        ensures made { IfOk result (λ w. (w.entries.items ≡ []) × (w.places ≡ min places 16777216)) }
+        ensures memory { IfOk result (λ w. vec_capacity w.entries ≡ w.places) }
+        ensures without { places ≡ 0 → is_ok result ≡ true }
     {
         let places = places.min(16_777_216);
         let entries = Vec::with_capacity(heap, places)?;

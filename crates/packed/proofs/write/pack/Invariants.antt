@@ -1,4 +1,4 @@
-use Rattle.std.proofs.Common.{◌≡◌, ◌≤◌, length, take, vec_capacity}
+use Rattle.std.proofs.Common.{◌≡◌, length, take, vec_capacity}
 use Rattle.packed.specs.Packing.{packed}
 use Rattle.packed.proofs.write.pack.Given as goal
 
@@ -6,5 +6,5 @@ abbrev pub invariant-loop-i : goal.invariant-loop-i
 invariant-loop-i g l =
     record {
       gone : l.bytes.items ≡ packed (take l.i (g.S.Sink.list l.sink));
-      reserved : length (packed (g.S.Sink.list l.sink)) ≤ vec_capacity l.bytes;
+      reserved : vec_capacity l.bytes ≡ length (packed (g.S.Sink.list l.sink));
     }
