@@ -16,7 +16,7 @@ use std::alloc::{AllocError, Global};
 use std::fmt::Write;
 
 /// The digest of the tables, the contexts and the tile's cells.
-fn digest(stage: &Stage, cells: &[Cell]) -> u64 {
+pub fn digest(stage: &Stage, cells: &[Cell]) -> u64 {
     let mut d = Digest::new();
     for w in stage.words() {
         d.word(*w);
