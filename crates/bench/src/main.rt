@@ -1,7 +1,7 @@
 //! bench check | time [ROUNDS] | list
 //!
 //! Work of the writing side: `trials` (skip flags in trials that are taken back), `mix` (a fixed list of calls of all kinds,
-//! with no trial open) and `windows` (what undo records of tables cost alone). `check` does each once, with few trials, and
+//! with no trial open) and `log` (what undo records of tables cost alone). `check` does each once, with few trials, and
 //! prints what came of it. `time` prints a line for each, the time of a call in the fastest of so many rounds, by default 20.
 //! `list` prints the calls of `mix` as a script, for other programs to make.
 #![tactic(auto)]
@@ -82,10 +82,10 @@ fn check_mix(rt: &HostRuntime) -> anyhow::Result<()> {
     Ok(())
 }
 
-fn check_windows(rt: &HostRuntime) -> anyhow::Result<()> {
+fn check_log(rt: &HostRuntime) -> anyhow::Result<()> {
     let mut windows = Windows::new(FEW);
     let records = windows.round().map_err(refused)?;
-    println!(rt; "windows: {records} records put back")?;
+    println!(rt; "log: {records} records put back")?;
     println!(rt; "words {:016x}", words_digest(windows.tables.words()))?;
     windows.log(0);
     println!(rt;
@@ -98,7 +98,7 @@ fn check_windows(rt: &HostRuntime) -> anyhow::Result<()> {
 fn check(rt: &HostRuntime) -> anyhow::Result<()> {
     check_trials(rt)?;
     check_mix(rt)?;
-    check_windows(rt)
+    check_log(rt)
 }
 
 // What a round leaves is printed behind its time, so that no work is left out when the program is made.
@@ -113,7 +113,7 @@ fn time(rt: &HostRuntime, rounds: usize) -> anyhow::Result<()> {
     println!(rt; "{}", State(digest(&mix.stage, &mix.memory.map)))?;
     let mut windows = Windows::new(TIMES);
     let least = best(rt, rounds, &mut windows)?;
-    println!(rt; "windows {least} ns a symbol")?;
+    println!(rt; "log {least} ns a symbol")?;
     println!(rt; "words {:016x}", words_digest(windows.tables.words()))?;
     Ok(())
 }
