@@ -28,6 +28,32 @@ pub enum BlockSize {
     BLOCK_64X16,
 }
 
+// The logarithms of the sides of each size, width and height: looked up, since callers ask often.
+const SIDES_LOG2: [[u8; 2]; 22] = [
+    [2, 2],
+    [2, 3],
+    [3, 2],
+    [3, 3],
+    [3, 4],
+    [4, 3],
+    [4, 4],
+    [4, 5],
+    [5, 4],
+    [5, 5],
+    [5, 6],
+    [6, 5],
+    [6, 6],
+    [6, 7],
+    [7, 6],
+    [7, 7],
+    [2, 4],
+    [4, 2],
+    [3, 5],
+    [5, 3],
+    [4, 6],
+    [6, 4],
+];
+
 // The context bytes of each size, above and left: a set bit j says that the side is below 8 × 2^j pixels.
 // The project needs the table as it is.
 const partition_context_lookup: [[u8; 2]; 22] = [
@@ -65,53 +91,13 @@ impl BlockSize {
     pub fn width_log2(self) -> usize
         ensures { result ≡ width_log2 self }
     {
-        match self {
-            BlockSize::BLOCK_4X4 | BlockSize::BLOCK_4X8 | BlockSize::BLOCK_4X16 => 2,
-            BlockSize::BLOCK_8X4
-            | BlockSize::BLOCK_8X8
-            | BlockSize::BLOCK_8X16
-            | BlockSize::BLOCK_8X32 => 3,
-            BlockSize::BLOCK_16X4
-            | BlockSize::BLOCK_16X8
-            | BlockSize::BLOCK_16X16
-            | BlockSize::BLOCK_16X32
-            | BlockSize::BLOCK_16X64 => 4,
-            BlockSize::BLOCK_32X8
-            | BlockSize::BLOCK_32X16
-            | BlockSize::BLOCK_32X32
-            | BlockSize::BLOCK_32X64 => 5,
-            BlockSize::BLOCK_64X16
-            | BlockSize::BLOCK_64X32
-            | BlockSize::BLOCK_64X64
-            | BlockSize::BLOCK_64X128 => 6,
-            BlockSize::BLOCK_128X64 | BlockSize::BLOCK_128X128 => 7,
-        }
+        usize::from(SIDES_LOG2[self as usize][0])
     }
 
     pub fn height_log2(self) -> usize
         ensures { result ≡ height_log2 self }
     {
-        match self {
-            BlockSize::BLOCK_4X4 | BlockSize::BLOCK_8X4 | BlockSize::BLOCK_16X4 => 2,
-            BlockSize::BLOCK_4X8
-            | BlockSize::BLOCK_8X8
-            | BlockSize::BLOCK_16X8
-            | BlockSize::BLOCK_32X8 => 3,
-            BlockSize::BLOCK_4X16
-            | BlockSize::BLOCK_8X16
-            | BlockSize::BLOCK_16X16
-            | BlockSize::BLOCK_32X16
-            | BlockSize::BLOCK_64X16 => 4,
-            BlockSize::BLOCK_8X32
-            | BlockSize::BLOCK_16X32
-            | BlockSize::BLOCK_32X32
-            | BlockSize::BLOCK_64X32 => 5,
-            BlockSize::BLOCK_16X64
-            | BlockSize::BLOCK_32X64
-            | BlockSize::BLOCK_64X64
-            | BlockSize::BLOCK_128X64 => 6,
-            BlockSize::BLOCK_64X128 | BlockSize::BLOCK_128X128 => 7,
-        }
+        usize::from(SIDES_LOG2[self as usize][1])
     }
 
     /// The width in pixels.

@@ -1,10 +1,9 @@
 -- A symbol leaves a lawful table lawful, whatever its number of symbols.
-use Rattle.std.proofs.Common.{◌≡◌, ℕ, suc, ◌+◌, ◌-◌, ◌*◌, ◌/◌, ◌^◌, ◌<◌, ◌≤◌, Bool, true, false, cond, T, ltb, ◌⊎◌, List, [], ◌∷◌, ◌++◌, length, get_or, length-append, add-zero, zero-add, sym, refl, ap, ◌∙◌, subst, ap₂, inl, inr, div-lt_iff_lt-mul, add-mul, mul-le-mul_left, one-mul, div-le_self, arith, ltb→lt, lt→ltb, pow_pos, pow_mono}
+use Rattle.std.proofs.Common.{◌≡◌, ℕ, zero, suc, ◌+◌, ◌-◌, ◌*◌, ◌/◌, ◌^◌, ◌<◌, ◌≤◌, Bool, true, false, cond, T, ltb, ◌⊎◌, List, [], ◌∷◌, length, get_or, set, add-zero, zero-add, sym, refl, ap, ◌∙◌, subst, ap₂, inl, inr, div-lt_iff_lt-mul, add-mul, mul-le-mul_left, one-mul, div-le_self, arith, ltb→lt, lt→ltb, pow_pos, pow_mono}
 use Rattle.std.proofs.lemmas.Bool.{cases_lt, lt-ltb, le-ltb}
 use Rattle.std.proofs.lemmas.Bool.Decides.{nat_tests}
 use native.Mathlib.Nat.{div-eq_of_lt, lt-div-mul-add}
 use Rattle.cdf.specs.Words.{moved, counted, moved_from, adapted, rate, Descends, LawfulTable, TableStaysLawful}
-use Rattle.std.proofs.lemmas.Grind.{common_steps}
 
 -- a value of 16 bits is 0 after any shift by 16 or more
 pub shifted : (v r : ℕ) → v < 65536 → cond (ltb r 16) (v / 2 ^ r) 0 ≡ v / 2 ^ r
@@ -80,35 +79,32 @@ length_moved rate s i [] = refl
 length_moved rate s i (c ∷ []) = refl
 length_moved rate s i (v ∷ x ∷ xs) = ap suc (length_moved rate s (suc i) (x ∷ xs))
 
-moved_more : (r s i v c : ℕ) (vs : List ℕ) → moved_from r s i (v ∷ (vs ++ c ∷ [])) ≡ moved r (ltb i s) v ∷ moved_from r s (suc i) (vs ++ c ∷ [])
-moved_more r s i v c [] = refl
-moved_more r s i v c (x ∷ xs) = refl
-
--- each value moved, and then the counter
-moved_by : (r s i c : ℕ) (vs us : List ℕ) → length us ≡ length vs → ((k : ℕ) → k < length vs → get_or us k 0 ≡ moved r (ltb (i + k) s) (get_or vs k 0))
-    → us ++ counted c ∷ [] ≡ moved_from r s i (vs ++ c ∷ [])
-moved_by r s i c [] [] long body = refl
-moved_by r s i c [] (u ∷ us) long body = absurd (omega arith)
-moved_by r s i c (v ∷ vs) [] long body = absurd (omega arith)
-moved_by r s i c (v ∷ vs) (u ∷ us) long body =
-    ap₂ ◌∷◌ first (moved_by r s (suc i) c vs us (omega arith) (λ k h. next k h)) ∙ sym (moved_more r s i v c vs)
+-- each word moved, and then the counter set, which is at place m
+moved_by : (r s i m w : ℕ) (ts us : List ℕ) → m + 1 ≡ length ts → length us ≡ length ts → w ≡ counted (get_or ts m 0)
+    → ((k : ℕ) → k < length ts → get_or us k 0 ≡ moved r (ltb (i + k) s) (get_or ts k 0))
+    → set us m w ≡ moved_from r s i ts
+moved_by r s i m w [] us end long last body = absurd (omega arith)
+moved_by r s i m w (v ∷ vs) [] end long last body = absurd (omega arith)
+moved_by r s i zero w (c ∷ []) (u ∷ []) end long last body = ap (λ x. x ∷ []) last
+moved_by r s i zero w (c ∷ []) (u ∷ x ∷ us) end long last body = absurd (omega arith)
+moved_by r s i zero w (v ∷ x ∷ vs) (u ∷ us) end long last body = absurd (omega arith)
+moved_by r s i (suc m) w (c ∷ []) (u ∷ us) end long last body = absurd (omega arith)
+moved_by r s i (suc m) w (v ∷ x ∷ vs) (u ∷ us) end long last body =
+    ap₂ ◌∷◌ first (moved_by r s (suc i) m w (x ∷ vs) us (omega arith) (omega arith) last (λ k h. next k h))
   where
     first : u ≡ moved r (ltb i s) v
     first = body 0 (omega arith) ∙ ap (λ n. moved r (ltb n s) v) (add-zero i)
 
-    next : (k : ℕ) → k < length vs → get_or us k 0 ≡ moved r (ltb (suc i + k) s) (get_or vs k 0)
-    next k h = let e : i + suc k ≡ suc i + k = omega arith in body (suc k) (omega arith) ∙ ap (λ n. moved r (ltb n s) (get_or vs k 0)) e
+    next : (k : ℕ) → k < length (x ∷ vs) → get_or us k 0 ≡ moved r (ltb (suc i + k) s) (get_or (x ∷ vs) k 0)
+    next k h = let e : i + suc k ≡ suc i + k = omega arith in body (suc k) (omega arith) ∙ ap (λ n. moved r (ltb n s) (get_or (x ∷ vs) k 0)) e
 
 -- so a table becomes the adapted one
-pub adapts : (t vs us : List ℕ) (s c w r : ℕ) → t ≡ vs ++ c ∷ [] → w ≡ counted c → r ≡ rate (length t) c → length us ≡ length vs
-    → ((k : ℕ) → k < length vs → get_or us k 0 ≡ moved r (ltb k s) (get_or vs k 0))
-    → (us ++ w ∷ [] ≡ adapted (length t) t s) × (LawfulTable t → LawfulTable (us ++ w ∷ []))
-adapts t vs us s c w r is counter by long body = (words, λ h. subst LawfulTable (sym words) (table_stays_lawful (length t) t s h))
-  where
-    last : get_or t (length t - 1) 0 ≡ c
-    last = grind (arith, common_steps, length-append {A = ℕ})
+pub adapts : (t us : List ℕ) (s c w r : ℕ) → 0 < length t → c ≡ get_or t (length t - 1) 0 → w ≡ counted c → r ≡ rate (length t) c → length us ≡ length t
+    → ((k : ℕ) → k < length t → get_or us k 0 ≡ moved r (ltb k s) (get_or t k 0))
+    → set us (length t - 1) w ≡ adapted (length t) t s
+adapts t us s c w r some is counter by long body =
+    moved_by r s 0 (length t - 1) w t us (omega arith) long (counter ∙ ap counted is) (λ k h. body k h ∙ ap (λ n. moved r (ltb n s) (get_or t k 0)) (sym (zero-add k)))
+    ∙ ap (λ x. moved_from x s 0 t) (by ∙ ap (rate (length t)) is)
 
-    words : us ++ w ∷ [] ≡ adapted (length t) t s
-    words =
-        ap (λ x. us ++ x ∷ []) counter ∙ moved_by r s 0 c vs us long (λ k h. body k h ∙ ap (λ n. moved r (ltb n s) (get_or vs k 0)) (sym (zero-add k)))
-        ∙ ap₂ (λ x l. moved_from x s 0 l) (by ∙ ap (rate (length t)) (sym last)) (sym is)
+pub stays_lawful : (t ws : List ℕ) (s : ℕ) → ws ≡ adapted (length t) t s → LawfulTable t → LawfulTable ws
+stays_lawful t ws s words h = subst LawfulTable (sym words) (table_stays_lawful (length t) t s h)

@@ -16,8 +16,10 @@ pub(crate) fn around(table: &[u16], s: usize) -> (u16, u16)
     requires { s < length table.now }
     ensures { (result.0 ≡ fl_at table.now s) × (result.1 ≡ fh_at (length table.now) table.now s) }
 {
-    let fl = if s == 0 { 32768 } else { table[s - 1] };
-    let fh = if s + 1 == table.len() { 0 } else { table[s] };
+    let before = table[s.saturating_sub(1)];
+    let here = table[s];
+    let fl = if s == 0 { 32768 } else { before };
+    let fh = if s + 1 == table.len() { 0 } else { here };
     (fl, fh)
 }
 

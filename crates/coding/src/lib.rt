@@ -16,7 +16,7 @@ use std::alloc::{AllocError, Global};
 use std::fmt::Write;
 
 /// A state as bytes: each word with its low byte first, the contexts, and the flag and segment of each cell.
-fn state_bytes(heap: Global, stage: &Stage, cells: &[Cell]) -> Result<Vec<u8>, AllocError> {
+pub fn state_bytes(heap: Global, stage: &Stage, cells: &[Cell]) -> Result<Vec<u8>, AllocError> {
     let mut bytes = Vec::new(heap);
     for word in stage.words() {
         bytes.extend_from_slice(&word.to_le_bytes())?;
@@ -31,7 +31,7 @@ fn state_bytes(heap: Global, stage: &Stage, cells: &[Cell]) -> Result<Vec<u8>, A
 }
 
 /// The digest of a state's bytes.
-fn digest(bytes: &[u8]) -> u64 {
+pub fn digest(bytes: &[u8]) -> u64 {
     let mut d = Digest::new();
     d.bytes(bytes);
     d.value()

@@ -57,6 +57,7 @@ impl Tile {
     }
 
     /// The cells of a block at a position, which has to lie in the tile, at multiples of the block's sides.
+    #[inline(always)]
     #[tactic(auto, using(crate::proofs::Placing::inside_block))]
     pub fn place(&self, bo: TileBlockOffset, bsize: BlockSize) -> Result<Block, Refusal>
         ensures answer { result ≡ placed self.now.cols self.now.rows bo.x bo.y bsize }
@@ -76,6 +77,7 @@ impl Tile {
 
     /// The cells of a block that a decision sets: the map's memory has to be enough, neither side longer than
     /// `longest` pixels, and the position has to fit.
+    #[inline(always)]
     pub fn ask_block(
         &self,
         memory: usize,

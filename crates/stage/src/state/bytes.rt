@@ -43,9 +43,10 @@ impl Journal {
         ensures kept { OnlySpots self.new self.old }
         ensures used { self.new.used.spots ≤ self.old.used.spots + count }
     {
+        let logs = !self.marks.is_empty();
         // by places, not items: the place is what is logged
         for at in first..first + count {
-            self.log_spot(spots, spot_of(side, at, bytes[at]));
+            self.log_spot(spots, logs, spot_of(side, at, bytes[at]));
             bytes[at] = byte;
         }
     }

@@ -1,4 +1,4 @@
-ghost use Rattle.std.specs.Prelude.{◌≡◌, ℕ, ◌+◌, ◌*◌, ◌<◌, ◌≤◌, [], ◌∷◌, length};
+ghost use Rattle.std.specs.Prelude.{◌≡◌, ℕ, ◌+◌, ◌*◌, ◌<◌, ◌≤◌, [], ◌∷◌, length, nat_lt};
 ghost use Rattle.cdf.specs.Lists.{from};
 ghost use Rattle.model.specs.Calls.{log_if};
 ghost use Rattle.model.specs.Decisions.{block_cells};
@@ -19,38 +19,40 @@ pub(crate) enum Change {
     Segment(u8),
 }
 
-fn changed(cell: Cell, change: Change) -> Cell
-    ensures { result ≡ changed change cell }
+fn change_cell(cell: &mut Cell, change: Change)
+    ensures { cell.new ≡ changed change cell.old }
 {
     match change {
-        Change::Skip(skip) => Cell {
-            skip,
-            segment: cell.segment,
-        },
-        Change::Segment(segment) => Cell {
-            skip: cell.skip,
-            segment,
-        },
+        Change::Skip(skip) => cell.skip = skip,
+        Change::Segment(segment) => cell.segment = segment,
     }
 }
 
 impl Journal {
-    // Logs what a cell or a context byte was, while a trial is open.
-    pub(super) fn log_spot(&mut self, spots: &mut [Spot], was: Spot)
-        requires { 0 < open_trials self.old → self.old.used.spots < length spots.old }
+    // Logs what a cell or a context byte was, while a trial is open. Whether one is, `logs`, is asked once for many.
+    pub(super) fn log_spot(&mut self, spots: &mut [Spot], logs: bool, was: Spot)
+        requires logs { logs ≡ nat_lt 0 (open_trials self.old) }
+        requires room { 0 < open_trials self.old → self.old.used.spots < length spots.old }
         ensures lane { lane spots.new self.new.used.spots ≡ log_if (marks_of self.old) (lane spots.old self.old.used.spots) (was ∷ []) }
         ensures kept { OnlySpots self.new self.old }
         ensures used { self.new.used.spots ≤ self.old.used.spots + 1 }
     {
-        if self.marks.is_empty() {
-            return;
+        if logs {
+            log_record(spots, &mut self.used.spots, was);
         }
-        log_record(spots, &mut self.used.spots, was);
     }
 
     // Changes a cell, and logs what it was. `few` stands here and twice below, for the 32 bits of a place: a type around
     // the lent cells would be taken apart at each of them.
-    fn set_cell(&mut self, cells: &mut [Cell], spots: &mut [Spot], at: usize, change: Change)
+    fn set_cell(
+        &mut self,
+        cells: &mut [Cell],
+        spots: &mut [Spot],
+        logs: bool,
+        at: usize,
+        change: Change,
+    )
+        requires logs { logs ≡ nat_lt 0 (open_trials self.old) }
         requires inside { at < length cells.old }
         requires few { length cells.old ≤ 1048576 }
         requires room { 0 < open_trials self.old → self.old.used.spots < length spots.old }
@@ -59,8 +61,8 @@ impl Journal {
         ensures used { self.new.used.spots ≤ self.old.used.spots + 1 }
     {
         let was = cells[at];
-        self.log_spot(spots, Spot::Cell { at: at as u32, was });
-        cells[at] = changed(was, change);
+        self.log_spot(spots, logs, Spot::Cell { at: at as u32, was });
+        change_cell(&mut cells[at], change);
     }
 
     // Changes `width` cells from `first` on.
@@ -79,9 +81,10 @@ impl Journal {
         ensures kept { OnlySpots self.new self.old }
         ensures used { self.new.used.spots ≤ self.old.used.spots + width }
     {
+        let logs = !self.marks.is_empty();
         // by places, not items: the place is what is logged
         for at in first..first + width {
-            self.set_cell(cells, spots, at, change);
+            self.set_cell(cells, spots, logs, at, change);
         }
     }
 

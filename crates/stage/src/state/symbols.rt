@@ -82,7 +82,8 @@ impl Journal {
 impl Stage {
     // Codes symbol `s` by a table: its entry goes to the sink, and the table adapts. Here and in all that calls it `sink`
     // and `log` go on as they were lent: one struct of both would be made and taken apart again in each public call, and
-    // each clause would name its fields.
+    // each clause would name its fields. Made anew at each call, where the number of symbols is known.
+    #[inline(always)]
     pub(super) fn symbol<S: Sink>(
         &mut self,
         sink: &mut S,
