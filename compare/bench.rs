@@ -63,21 +63,21 @@ fn mix(script: &Script, rounds: usize) {
 }
 
 /// What the log costs alone: 64 symbols by the three skip tables in turn, rolled back.
-fn windows(rounds: usize) {
+fn log(rounds: usize) {
     let mut fc = tables(start_words());
-    let mut log = CDFContextLog::default();
+    let mut fc_log = CDFContextLog::default();
     let time = best(rounds, TRIALS * DECISIONS, || {
         for trial in 0..TRIALS {
-            let mark = log.mark();
+            let mark = fc_log.mark();
             for i in 0..DECISIONS {
                 let table = fc.offset(&fc.skip_cdfs[i % 3]);
-                let words = log.push(&mut fc, table);
+                let words = fc_log.push(&mut fc, table);
                 update_cdf(words, u32::from(flag(trial, i)));
             }
-            log.rollback(&mut fc, &mark);
+            fc_log.rollback(&mut fc, &mark);
         }
     });
-    println!("windows {time:.2} ns a symbol");
+    println!("log {time:.2} ns a symbol");
     println!("words {:016x}", digest(&words(&fc).map(u16::to_le_bytes).concat()));
 }
 
@@ -98,5 +98,5 @@ pub fn run(path: &str, rounds: usize) {
     };
     trials(rounds);
     mix(&script, rounds);
-    windows(rounds);
+    log(rounds);
 }
