@@ -1,11 +1,10 @@
 -- Whether words stay lawful with a window put in is seen at the window and the word behind it.
-use Rattle.std.proofs.Common.{◌≡◌, ℕ, zero, suc, ◌+◌, ◌-◌, ◌<◌, ◌≤◌, min, Bool, true, IsTrue, Option, Some, None, MatchOption, unwrap_or, slice_get, cond, ◌&&◌, ◌⊎◌, List, ◌++◌, length, get_or, take, drop, sym, refl, ap, ◌∙◌, subst, ap₂, inl, inr, arith, le→leb}
+use Rattle.std.proofs.Common.{◌≡◌, ℕ, zero, suc, ◌+◌, ◌-◌, ◌<◌, ◌≤◌, min, Bool, true, IsTrue, Option, Some, None, MatchOption, cond, ◌&&◌, ◌⊎◌, List, ◌++◌, length, get_or, take, drop, sym, refl, ap, ◌∙◌, subst, ap₂, inl, inr, arith, le→leb}
 use borrow.Rule.Slice.PartMut.{put_mid}
 use lib.Seq.{sets, length-sets}
 use Rattle.std.specs.Slice.{IsItemAt}
 use Rattle.std.specs.Borrow.{Bor}
-use Rattle.std.proofs.lemmas.Option.{unwrap_or-slice_get}
-use Rattle.std.proofs.lemmas.List.{drop-drop, get_or-take, length-take}
+use Rattle.std.proofs.lemmas.List.{drop-drop}
 use Rattle.cdf.specs.Layout.{lawful, words_in_all, SoundWords}
 use Rattle.cdf.specs.Limits.{limits, keeps_to, word_before, fits_at, all_from}
 use Rattle.cdf.specs.Words.{Words}
@@ -43,14 +42,11 @@ window_lawful w first us s h =
 abbrev pub left_to_test : Words → ℕ → ℕ → ℕ → Bool
 left_to_test v first n k = all_from (fits_at v) k (window_end first n - k)
 
--- the last of the words before word k
-pub last_before : (w : Words) (k : ℕ) → k ≤ length w → unwrap_or (slice_get (take k w) (length (take k w) - 1)) 0 ≡ word_before w k
-last_before w zero h = refl
-last_before w (suc k) h =
-    unwrap_or-slice_get (take (suc k) w) (length (take (suc k) w) - 1) 0 ∙ ap (λ i. get_or (take (suc k) w) i 0) last ∙ get_or-take (suc k) w k 0 (omega arith)
-  where
-    last : length (take (suc k) w) - 1 ≡ k
-    last = simp length-take (omega arith)
+-- the word before the first word counts for nothing
+limit_before : (k b before u : ℕ) → (0 < k → b ≡ before) → keeps_to (get_or limits k 0) b u ≡ keeps_to (get_or limits k 0) before u
+unfolding limits
+limit_before zero b before u e = refl
+limit_before (suc k) b before u e = ap (λ x. keeps_to (get_or limits (suc k) 0) x u) (e (omega arith))
 
 module _ (w : Words) (first : ℕ) (us : List ℕ) (s : SoundWords w) (h : first + length us ≤ words_in_all) where
   abbrev put : Words
@@ -59,31 +55,36 @@ module _ (w : Words) (first : ℕ) (us : List ℕ) (s : SoundWords w) (h : first
   inside : first + length us ≤ length w
   inside = omega (arith, h, s.number)
 
+  -- the word before word k, where there is one
+  abbrev pub Before : ℕ → ℕ → Type 0
+  Before k b = 0 < k → b ≡ word_before put k
+
   -- before the first word of the window
   pub all_left : lawful put ≡ left_to_test put first (length us) (first + 0)
   all_left = let e : first ≡ first + 0 = omega arith in window_lawful w first us s h ∙ ap (left_to_test put first (length us)) e
 
-  pub before_first : word_before w first ≡ word_before put (first + 0)
-  before_first = let z : first ≡ first + 0 = omega arith in sym (go first (omega arith)) ∙ ap (word_before put) z
+  pub before_first : Before (first + 0) (get_or w (first - 1) 0)
+  before_first = let z : first ≡ first + 0 = omega arith in subst (λ k. Before k (get_or w (first - 1) 0)) z (go first (omega arith))
     where
-      go : (k : ℕ) → k ≤ first → word_before put k ≡ word_before w k
-      go zero l = refl
-      go (suc k) l = getD_sets_out us w first k (inl (omega arith))
+      go : (k : ℕ) → k ≤ first → Before k (get_or w (k - 1) 0)
+      go zero l p = absurd (omega (arith, p))
+      go (suc k) l p = let e : suc k - 1 ≡ k = omega arith in ap (λ i. get_or w i 0) e ∙ sym (getD_sets_out us w first k (inl (omega arith)))
 
   -- at a word of the window
-  pub word_left : (i b : ℕ) (r : Bool) → i < length us → b ≡ word_before put (first + i) → keeps_to (get_or limits (first + i) 0) b (get_or us i 0) ≡ r
+  pub word_left : (i b : ℕ) (r : Bool) → i < length us → Before (first + i) b → keeps_to (get_or limits (first + i) 0) b (get_or us i 0) ≡ r
       → left_to_test put first (length us) (first + i) ≡ (r && left_to_test put first (length us) (first + (i + 1)))
   word_left i b r l before fits =
       let next : suc (first + i) ≡ first + (i + 1) = omega arith in
       all_step (fits_at put) (first + i) (window_end first (length us)) (omega arith)
       ∙ ap₂ (λ x k. x && left_to_test put first (length us) k)
-      (ap₂ (λ x y. keeps_to (get_or limits (first + i) 0) x y) (sym before) (getD_sets_in us w first i inside l) ∙ fits) next
+      (ap (λ y. keeps_to (get_or limits (first + i) 0) (word_before put (first + i)) y) (getD_sets_in us w first i inside l)
+      ∙ sym (limit_before (first + i) b (word_before put (first + i)) (get_or us i 0) before) ∙ fits) next
 
-  pub before_next : (i : ℕ) → i < length us → get_or us i 0 ≡ word_before put (first + (i + 1))
-  before_next i l = let next : suc (first + i) ≡ first + (i + 1) = omega arith in sym (getD_sets_in us w first i inside l) ∙ ap (word_before put) next
+  pub before_next : (i : ℕ) → i < length us → Before (first + (i + 1)) (get_or us i 0)
+  before_next i l p = let next : suc (first + i) ≡ first + (i + 1) = omega arith in sym (getD_sets_in us w first i inside l) ∙ ap (word_before put) next
 
   -- at the word behind it, where there is one
-  pub behind_left : (i b : ℕ) (r : Bool) (o : Option (Bor ℕ)) → i ≡ length us → b ≡ word_before put (first + i) → IsItemAt w (first + length us) o
+  pub behind_left : (i b : ℕ) (r : Bool) (o : Option (Bor ℕ)) → i ≡ length us → Before (first + i) b → IsItemAt w (first + length us) o
       → MatchOption o (IsTrue r) (λ x. r ≡ keeps_to (get_or limits (first + length us) 0) b x.now) → left_to_test put first (length us) (first + i) ≡ r
   behind_left i b r None e before at fits = all_none (fits_at put) (first + i) (window_end first (length us)) (omega (arith, at.3, s.number)) ∙ sym fits
   behind_left i b r (Some x) e before at fits =
@@ -91,7 +92,8 @@ module _ (w : Words) (first : ℕ) (us : List ℕ) (s : SoundWords w) (h : first
       ap (λ j. left_to_test put first (length us) (first + j)) e
       ∙ all_step (fits_at put) k (window_end first (length us)) (omega (arith, at.3, s.number))
       ∙ ap₂ (λ x y. x && y)
-      (ap₂ (λ x y. keeps_to (get_or limits k 0) x y) (sym (before ∙ ap (λ j. word_before put (first + j)) e)) (getD_sets_out us w first k (inr (omega arith)) ∙ sym (at.4 (omega arith) 0)) ∙ sym fits)
+      (ap (λ y. keeps_to (get_or limits k 0) (word_before put k) y) (getD_sets_out us w first k (inr (omega arith)) ∙ sym (at.4 (omega arith) 0))
+      ∙ sym (limit_before k b (word_before put k) x.now (λ p. before (omega (arith, p, e)) ∙ ap (λ j. word_before put (first + j)) e)) ∙ sym fits)
       (all_none (fits_at put) (suc k) (window_end first (length us)) (omega arith))
       ∙ and_true r
 

@@ -13,7 +13,8 @@ fn window_fits(words: &[u16], first: usize, window: &[u16]) -> bool
     requires sound { SoundWords words.now }
     ensures { result ≡ lawful (sets words.now first window.now) }
 {
-    let mut before = words[..first].last().copied().unwrap_or(0);
+    // the first word of all is held to no word before it
+    let mut before = words[first.saturating_sub(1)];
     for (i, &word) in window.iter().enumerate() {
         if !word_fits(first + i, before, word) {
             return false;

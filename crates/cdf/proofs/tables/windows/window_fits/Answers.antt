@@ -1,5 +1,5 @@
-use Rattle.std.proofs.Common.{false, true, sym, ap, ◌∙◌, arith, rules, unwrap_or}
-use Rattle.cdf.proofs.Windows.{all_left, before_first, last_before, word_left, before_next, behind_left}
+use Rattle.std.proofs.Common.{false, true, sym, ap, ◌∙◌, get_or, arith, rules}
+use Rattle.cdf.proofs.Windows.{all_left, before_first, word_left, before_next, behind_left}
 use Rattle.cdf.proofs.tables.windows.window_fits.Goals as goal
 
 pub loop-i-init : goal.loop-i-init
@@ -8,9 +8,7 @@ loop-i-init c =
     let f = c.args.first in
     let us = c.args.window.now in
     record {
-      last =
-          c.unwrap_or-before.ensures ∙ ap (λ o. unwrap_or o 0) (c.copied.ensures ∙ c.last.ensures.value)
-          ∙ last_before w f (omega (arith, c.requires.sound.number)) ∙ before_first w f us c.requires.sound c.requires.inside;
+      last = λ p. ap (λ i. get_or w i 0) c.saturating_sub.ensures ∙ before_first w f us c.requires.sound c.requires.inside p;
       left = all_left w f us c.requires.sound c.requires.inside;
     }
 

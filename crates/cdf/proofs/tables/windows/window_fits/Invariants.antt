@@ -1,4 +1,4 @@
-use Rattle.std.proofs.Common.{◌≡◌, ◌+◌, length}
+use Rattle.std.proofs.Common.{◌≡◌, ◌+◌, ◌<◌, length}
 use lib.Seq.{sets}
 use Rattle.cdf.specs.Layout.{lawful}
 use Rattle.cdf.specs.Limits.{word_before}
@@ -8,6 +8,6 @@ use Rattle.cdf.proofs.tables.windows.window_fits.Given as goal
 abbrev pub invariant-loop-i : goal.invariant-loop-i
 invariant-loop-i l =
     let put = sets l.words l.first l.window in record {
-      last : l.before ≡ word_before put (l.first + l.i);
+      last : 0 < l.first + l.i → l.before ≡ word_before put (l.first + l.i);
       left : lawful put ≡ left_to_test put l.first (length l.window) (l.first + l.i);
     }
