@@ -2,11 +2,12 @@ ghost use Rattle.std.specs.Prelude.{◌≡◌, ◌<◌, slice_index};
 ghost use Rattle.cdf.specs.Limits.{limits, keeps_to};
 
 // A limit that stands for the word before.
-const AS_BEFORE: u16 = 65535;
+const AS_BEFORE: u32 = 65535;
 
 // The most that each word may be: 32768 for a table's first value, 32 for a counter, 0 for a filler, and 65535 for a
-// later value, which is at most the word before it. Numbers, not options: a constant of 430 options does not prove.
-const LIMITS: [u16; 430] = [
+// later value, which is at most the word before it. Numbers, not options: a constant of 430 options does not prove. Of 32
+// bits, since processors compare those with a constant in fewer steps than 16 bits.
+const LIMITS: [u32; 430] = [
     32768, 32, 32768, 32, 32768, 32, 32768, 65535, 65535, 32, 32768, 65535, 65535, 32, 32768,
     65535, 65535, 32, 32768, 65535, 65535, 32, 32768, 65535, 65535, 65535, 65535, 65535, 65535, 32,
     32768, 65535, 65535, 65535, 65535, 65535, 65535, 32, 32768, 65535, 65535, 65535, 65535, 65535,
@@ -45,8 +46,8 @@ pub(crate) fn word_fits(k: usize, before: u16, word: u16) -> bool
     ensures { result ≡ keeps_to (slice_index limits k) before word }
 {
     let most = match LIMITS[k] {
-        AS_BEFORE => before,
+        AS_BEFORE => u32::from(before),
         limit => limit,
     };
-    word <= most
+    u32::from(word) <= most
 }
