@@ -9,15 +9,11 @@ use journal::{Window, undo};
 fn window(tables: &Tables, first: usize) -> Window<4>
     requires { first + 4 ≤ 430 }
 {
-    let words = tables.words();
+    let mut words = [0; 4];
+    words.copy_from_slice(&tables.words()[first..first + 4]);
     Window {
         first: first as u16,
-        words: [
-            words[first],
-            words[first + 1],
-            words[first + 2],
-            words[first + 3],
-        ],
+        words,
     }
 }
 
