@@ -1,7 +1,7 @@
 //! bench check | time [ROUNDS] | list
 //!
 //! Work of the writing side: `trials` (skip flags in trials that are taken back), `mix` (a fixed list of calls of all kinds,
-//! with no trial open) and `log` (what undo records of tables cost alone). `check` does each once, with few trials, and
+//! with no trial open) and `log` (what undo records of tables cost alone). `check` does each in few rounds, and
 //! prints what came of it. `time` prints a line for each, the time of a call in the fastest of so many rounds, by default 20.
 //! `list` prints the calls of `mix` as a script, for other programs to make.
 #![tactic(auto)]
@@ -30,7 +30,8 @@ use std::process::ExitCode;
 // How many trials are timed as one round, and how often the records of tables.
 const TIMES: usize = 1000;
 
-const FEW: usize = 10;
+// More than can be open at once.
+const FEW: usize = 20;
 
 // The digest of entries: of each the symbol, the number of symbols, and the two values, low byte first.
 fn entries_digest(entries: &[Entry]) -> u64 {
@@ -78,6 +79,8 @@ fn check_trials(rt: &HostRuntime) -> anyhow::Result<()> {
 
 fn check_mix(rt: &HostRuntime) -> anyhow::Result<()> {
     let mut mix = Mix::new(rt.alloc())?;
+    // the second round begins anew
+    let _ = mix.round().map_err(refused)?;
     let calls = mix.round().map_err(refused)?;
     println!(rt; "mix: {calls} calls")?;
     println!(rt;
