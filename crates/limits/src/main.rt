@@ -92,6 +92,9 @@ fn hold(rt: &HostRuntime, path: &str) -> anyhow::Result<bool> {
 fn run(rt: &HostRuntime) -> anyhow::Result<()> {
     let mut args = env::args(rt)?;
     let _program = args.next();
+    if args.len() == 0 {
+        return Err(anyhow!("usage: limits TABLE.."));
+    }
     let mut fine = true;
     for path in args {
         fine &= hold(rt, path.as_str())?;

@@ -196,8 +196,7 @@ fn the_first_no_is_told(rt: HostRuntime) -> Result<(), Fail> {
     let unmapped = stage.write_segmentation(&mut sink, &mut none, &mut log, ORIGIN, wide, Some(9));
     assert_eq!(rt; unmapped, Err(Refusal::MapMemory));
 
-    let entry = [entry(0, 2, 32768, 16384)];
-    assert!(rt; sink.put(entry[0]).is_ok());
+    assert!(rt; sink.put(entry(0, 2, 32768, 16384)).is_ok());
     assert_eq!(rt; stage.open_at(&sink), Ok(1));
     let size = BlockSize::BLOCK_8X8;
     assert_eq!(rt;

@@ -82,7 +82,7 @@ impl Journal {
 impl Stage {
     // Codes symbol `s` by a table: its entry goes to the sink, and the table adapts. Here and in all that calls it `sink`
     // and `log` go on as they were lent: one struct of both would be made and taken apart again in each public call, and
-    // each clause would name its fields. Made anew at each call, where the number of symbols is known.
+    // each clause would name its fields. Inlined, so that each caller has the adaptation for its own number of symbols.
     #[inline(always)]
     pub(super) fn symbol<S: Sink>(
         &mut self,
