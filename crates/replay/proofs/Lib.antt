@@ -5,3 +5,4 @@ pub mod Units
 mod Noting
 pub mod Reading
 pub mod Rounds
+pub mod Questions

@@ -3,3 +3,4 @@ pub mod Runs
 pub mod Books
 pub mod Reads
 pub mod Rounds
+pub mod Questions
