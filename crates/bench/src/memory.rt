@@ -15,7 +15,7 @@ pub struct Memory {
 
 impl Memory {
     /// Memory for a tile of so many units and a record of so many entries. Each lane has 4,096 places.
-    pub fn new(heap: Global, units: usize, places: usize) -> Result<Memory, AllocError> {
+    pub(crate) fn new(heap: Global, units: usize, places: usize) -> Result<Memory, AllocError> {
         let cell = Cell {
             skip: false,
             segment: 0,

@@ -148,7 +148,7 @@ fn call(random: &mut Random) -> Call {
 }
 
 /// The calls: always the same, all of them allowed.
-pub fn calls(heap: Global) -> Result<Vec<Call>, AllocError> {
+pub(crate) fn calls(heap: Global) -> Result<Vec<Call>, AllocError> {
     let mut random = Random::new();
     let mut calls = Vec::with_capacity(heap, CALLS)?;
     for _ in 0..CALLS {
@@ -167,7 +167,7 @@ pub struct Mix {
 }
 
 impl Mix {
-    pub fn new(heap: Global) -> anyhow::Result<Mix> {
+    pub(crate) fn new(heap: Global) -> anyhow::Result<Mix> {
         let mut memory = Memory::new(heap, 4096, 65_536)?;
         let stage = Stage::start(64, 64, 7, &mut memory.map).map_err(refused)?;
         Ok(Mix {

@@ -8,7 +8,7 @@ pub struct Random {
 }
 
 impl Random {
-    pub fn new() -> Random {
+    pub(crate) fn new() -> Random {
         Random { state: 1 }
     }
 

@@ -10,7 +10,7 @@ pub trait Piece {
 }
 
 /// A refusal as an error, where none may come.
-pub fn refused(why: Refusal) -> anyhow::Error {
+pub(crate) fn refused(why: Refusal) -> anyhow::Error {
     anyhow!("refused {}", why.number())
 }
 
@@ -25,7 +25,11 @@ impl fmt::Display for PerCall {
 }
 
 /// The time of a call in the fastest of so many rounds, behind one that is not timed.
-pub fn best<P: Piece>(rt: &HostRuntime, rounds: usize, piece: &mut P) -> anyhow::Result<PerCall> {
+pub(crate) fn best<P: Piece>(
+    rt: &HostRuntime,
+    rounds: usize,
+    piece: &mut P,
+) -> anyhow::Result<PerCall> {
     let calls = piece.round().map_err(refused)?;
     let mut least = u128::MAX;
     for _ in 0..rounds {

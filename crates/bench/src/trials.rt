@@ -17,7 +17,7 @@ pub struct Trials {
 }
 
 impl Trials {
-    pub fn new(heap: Global, trials: usize) -> anyhow::Result<Trials> {
+    pub(crate) fn new(heap: Global, trials: usize) -> anyhow::Result<Trials> {
         let mut memory = Memory::new(heap, 256, 64)?;
         let stage = Stage::start(16, 16, 7, &mut memory.map).map_err(refused)?;
         Ok(Trials {
@@ -28,7 +28,7 @@ impl Trials {
     }
 
     /// The decisions of a trial: block `i` is skipped where 7 × i plus the trial's number is a multiple of 3.
-    pub fn decide(&mut self, trial: usize) -> Result<(), Refusal> {
+    pub(crate) fn decide(&mut self, trial: usize) -> Result<(), Refusal> {
         let mut log = Log {
             small: &mut self.memory.small,
             large: &mut self.memory.large,
@@ -51,7 +51,7 @@ impl Trials {
     }
 
     /// Takes a trial back, and ends it.
-    pub fn undo(&mut self, depth: usize) -> Result<(), Refusal> {
+    pub(crate) fn undo(&mut self, depth: usize) -> Result<(), Refusal> {
         let log = Log {
             small: &mut self.memory.small,
             large: &mut self.memory.large,

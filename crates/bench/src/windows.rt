@@ -28,7 +28,7 @@ pub struct Windows {
 }
 
 impl Windows {
-    pub fn new(times: usize) -> Windows {
+    pub(crate) fn new(times: usize) -> Windows {
         let none = Window {
             first: 0,
             words: [0; 4],
@@ -41,7 +41,7 @@ impl Windows {
     }
 
     /// Symbol `i` is 1 where 7 × i plus the time's number is a multiple of 3.
-    pub fn log(&mut self, time: usize) {
+    pub(crate) fn log(&mut self, time: usize) {
         for i in 0..64 {
             let first = 2 * (i % 3);
             let symbol = usize::from((7 * i + time % 3) % 3 == 0);
@@ -51,7 +51,7 @@ impl Windows {
     }
 
     /// Puts the records back: how many they are.
-    pub fn undo(&mut self) -> usize {
+    pub(crate) fn undo(&mut self) -> usize {
         undo(&self.lane, 0, 64, &mut self.tables)
     }
 }

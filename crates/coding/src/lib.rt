@@ -1,6 +1,9 @@
 //! Codes a script of calls, and reads packed bytes by its questions: what is to be printed.
 #![tactic(auto)]
 
+ghost use Rattle.std.specs.Prelude.{◌≡◌};
+ghost use Rattle.script.specs.Digests.{offset, steps};
+
 pub mod read;
 
 use crate::read::read_back;
@@ -31,7 +34,9 @@ pub fn state_bytes(heap: Global, stage: &Stage, cells: &[Cell]) -> Result<Vec<u8
 }
 
 /// The digest of a state's bytes.
-pub fn digest(bytes: &[u8]) -> u64 {
+pub fn digest(bytes: &[u8]) -> u64
+    ensures { result ≡ steps offset bytes.now }
+{
     let mut d = Digest::new();
     d.bytes(bytes);
     d.value()
