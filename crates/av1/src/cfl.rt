@@ -1,4 +1,4 @@
-ghost use Rattle.std.specs.Prelude.{◌≡◌, ◌+◌, ◌/◌, ◌%◌, ◌<◌, ◌≤◌, IsTrue, [], ◌∷◌, is_some, IfSome, All, nat_lt};
+ghost use Rattle.std.specs.Prelude.{◌≡◌, ◌+◌, ◌/◌, ◌%◌, ◌<◌, ◌≤◌, IsTrue, [], ◌∷◌, is_some, IfSome, All, if◌then◌else◌, None, nat_eq, nat_lt};
 ghost use Rattle.av1.specs.Alphas.{sign_of, sign_number, alpha_context, alpha_at, alphas_allowed, joint_sign, coded_alpha};
 ghost use Rattle.av1.specs.Vectors.{magnitude, nonzero};
 
@@ -120,6 +120,18 @@ impl CFLParams {
         ensures range { (0 < result) × (result ≤ 2) }
     {
         usize::from(self.u != 0) + usize::from(self.v != 0)
+    }
+
+    /// The context and the symbol of alpha u, for 0, or v, for 1; a zero has none, and neither has another number.
+    pub fn scale(self, uv: usize) -> Option<(usize, usize)>
+        ensures value { result ≡ (if nat_eq uv 0 then coded_alpha self.u self.v else (if nat_eq uv 1 then coded_alpha self.v self.u else None)) }
+        ensures within { IfSome result (λ s. (s.0 < 6) × (s.1 < 16)) }
+    {
+        match uv {
+            0 => coded(self.u, self.v),
+            1 => coded(self.v, self.u),
+            _ => None,
+        }
     }
 
     /// The context and the symbol of alpha u and of alpha v; a zero has none.

@@ -1,9 +1,13 @@
 -- A symbol leaves a lawful table lawful, whatever its number of symbols.
-use Rattle.std.proofs.Common.{◌≡◌, ℕ, zero, suc, ◌+◌, ◌-◌, ◌*◌, ◌/◌, ◌^◌, ◌<◌, ◌≤◌, Bool, true, false, cond, T, ltb, ◌⊎◌, List, [], ◌∷◌, length, get_or, set, add-zero, zero-add, sym, refl, ap, ◌∙◌, subst, ap₂, inl, inr, div-lt_iff_lt-mul, add-mul, mul-le-mul_left, one-mul, div-le_self, arith, ltb→lt, lt→ltb, pow_pos, pow_mono}
+use Rattle.std.proofs.Common.{◌≡◌, ℕ, zero, suc, ◌+◌, ◌-◌, ◌*◌, ◌/◌, ◌^◌, ◌<◌, ◌≤◌, Bool, true, false, cond, T, eqb, ltb, ◌⊎◌, List, [], ◌∷◌, length, get_or, set, add-zero, zero-add, sym, refl, ap, ◌∙◌, subst, ap₂, inl, inr, div-lt_iff_lt-mul, add-mul, mul-le-mul_left, one-mul, div-le_self, arith, eqb→eq, ltb→lt, lt→ltb, ext_get_or, pow_pos, pow_mono}
+use native.Mathlib.Decide.{ℕ_discrete}
+use native.Mathlib.Nat.{div-eq_of_lt, lt-div-mul-add}
+use lib.Dec.{eqb_refl}
 use Rattle.std.proofs.lemmas.Bool.{cases_lt, lt-ltb, le-ltb}
 use Rattle.std.proofs.lemmas.Bool.Decides.{nat_tests}
-use native.Mathlib.Nat.{div-eq_of_lt, lt-div-mul-add}
+use Rattle.std.proofs.lemmas.List.{length-set, get_or-set_same, get_or-set_other}
 use Rattle.cdf.specs.Words.{moved, counted, moved_from, adapted, rate, Descends, LawfulTable, TableStaysLawful}
+use Rattle.cdf.proofs.Booleans.{T→true, not-T→false, same_test}
 
 -- a value of 16 bits is 0 after any shift by 16 or more
 pub shifted : (v r : ℕ) → v < 65536 → cond (ltb r 16) (v / 2 ^ r) 0 ≡ v / 2 ^ r
@@ -78,6 +82,67 @@ pub length_moved : (rate s i : ℕ) (vs : List ℕ) → length (moved_from rate 
 length_moved rate s i [] = refl
 length_moved rate s i (c ∷ []) = refl
 length_moved rate s i (v ∷ x ∷ xs) = ap suc (length_moved rate s (suc i) (x ∷ xs))
+
+-- a table's words after a symbol, one by one
+moved_at : (r s : ℕ) (vs : List ℕ) (from i : ℕ) → i < length vs → get_or (moved_from r s from vs) i 0 ≡ cond (eqb (i + 1) (length vs)) (counted (get_or vs i 0)) (moved r (ltb (from + i) s) (get_or vs i 0))
+moved_at r s [] from i h = absurd (omega arith)
+moved_at r s (c ∷ []) from zero h = refl
+moved_at r s (c ∷ []) from (suc i) h = absurd (omega arith)
+moved_at r s (v ∷ x ∷ xs) from zero h =
+    ap (λ k. moved r (ltb k s) v) here ∙ sym (ap (λ b. cond b (counted v) (moved r (ltb (from + 0) s) v)) (not-T→false (eqb 1 (suc (suc (length xs)))) (λ t. let e : 1 ≡ suc (suc (length xs)) = eqb→eq 1 (suc (suc (length xs))) t in omega arith)))
+  where
+    here : from ≡ from + 0
+    here = omega arith
+moved_at r s (v ∷ x ∷ xs) from (suc i) h =
+    moved_at r s (x ∷ xs) (suc from) i (omega arith)
+    ∙ ap₂ (λ b k. cond b (counted (get_or (x ∷ xs) i 0)) (moved r (ltb k s) (get_or (x ∷ xs) i 0))) (same_eqb (i + 1) (suc (length xs)) (suc i + 1) (suc (suc (length xs))) (omega arith) (omega arith)) (next i)
+  where
+    next : (i : ℕ) → suc from + i ≡ from + suc i
+    next i = omega arith
+
+    same_eqb : (a b c d : ℕ) → c ≡ suc a → d ≡ suc b → eqb a b ≡ eqb c d
+    same_eqb a b c d p q = same_test (eqb a b) (eqb c d)
+        (λ t. let e : a ≡ b = eqb→eq a b t in let f : d ≡ c = omega arith in subst (λ z. T (eqb c z)) (sym f) (eqb_refl c))
+        (λ t. let e : c ≡ d = eqb→eq c d t in let f : b ≡ a = omega arith in subst (λ z. T (eqb a z)) (sym f) (eqb_refl a))
+
+-- so each word of the adapted table
+pub adapted_at : (vs : List ℕ) (s i : ℕ) → i < length vs
+    → get_or (adapted (length vs) vs s) i 0
+    ≡ cond (eqb (i + 1) (length vs)) (counted (get_or vs i 0)) (moved (rate (length vs) (get_or vs (length vs - 1) 0)) (ltb i s) (get_or vs i 0))
+adapted_at vs s i h =
+    moved_at (rate (length vs) (get_or vs (length vs - 1) 0)) s vs 0 i h
+    ∙ ap (λ k. cond (eqb (i + 1) (length vs)) (counted (get_or vs i 0)) (moved (rate (length vs) (get_or vs (length vs - 1) 0)) (ltb k s) (get_or vs i 0))) zero_add
+  where
+    zero_add : 0 + i ≡ i
+    zero_add = omega arith
+
+-- a table of which each value is moved and the counter set is the adapted one
+pub adapted_by : (s : ℕ) (t u : List ℕ) (w : ℕ) → 0 < length t → length u ≡ length t
+    → ((k : ℕ) → k < length t - 1 → get_or u k 0 ≡ moved (rate (length t) (get_or t (length t - 1) 0)) (ltb k s) (get_or t k 0))
+    → w ≡ counted (get_or t (length t - 1) 0)
+    → set u (length t - 1) w ≡ adapted (length t) t s
+adapted_by s t u w some len body top =
+    ext_get_or 0 (set u (length t - 1) w) (adapted (length t) t s) (length-set u (length t - 1) w ∙ len ∙ sym (length_moved r s 0 t)) at
+  where
+    r : ℕ
+    r = rate (length t) (get_or t (length t - 1) 0)
+
+    one : (k : ℕ) → k < length t → Dec (k + 1 ≡ length t) → get_or (set u (length t - 1) w) k 0 ≡ cond (eqb (k + 1) (length t)) (counted (get_or t k 0)) (moved r (ltb k s) (get_or t k 0))
+    one k h (yes e) =
+        ap (λ x. get_or (set u (length t - 1) w) x 0) last ∙ get_or-set_same u (length t - 1) w 0 (omega arith) ∙ top ∙ ap (λ x. counted (get_or t x 0)) (sym last)
+        ∙ sym (ap (λ b. cond b (counted (get_or t k 0)) (moved r (ltb k s) (get_or t k 0))) (T→true (eqb (k + 1) (length t)) (subst (λ x. T (eqb (k + 1) x)) e (eqb_refl (k + 1)))))
+      where
+        last : k ≡ length t - 1
+        last = omega arith
+    one k h (no e) =
+        get_or-set_other u (length t - 1) k w 0 (omega arith) ∙ body k (omega arith)
+        ∙ sym (ap (λ b. cond b (counted (get_or t k 0)) (moved r (ltb k s) (get_or t k 0))) (not-T→false (eqb (k + 1) (length t)) (λ x. e (eqb→eq (k + 1) (length t) x))))
+
+    at : (k : ℕ) → k < length (set u (length t - 1) w) → get_or (set u (length t - 1) w) k 0 ≡ get_or (adapted (length t) t s) k 0
+    at k h =
+        let l : length (set u (length t - 1) w) ≡ length u = length-set u (length t - 1) w in
+        let m : k < length t = omega (arith, l, len) in
+        one k m (ℕ_discrete (k + 1) (length t)) ∙ sym (adapted_at t s k m)
 
 -- each word moved, and then the counter set, which is at place m
 moved_by : (r s i m w : ℕ) (ts us : List ℕ) → m + 1 ≡ length ts → length us ≡ length ts → w ≡ counted (get_or ts m 0)

@@ -1,6 +1,7 @@
 -- The widths of symbols that rise add up to no more than the value before the first of them.
-use Rattle.std.proofs.Common.{◌≡◌, ℕ, zero, suc, ◌+◌, ◌-◌, ◌<◌, ◌≤◌, true, cond, ltb, List, [], ◌∷◌, length, sum_by, refl, add-zero, add-suc, arith, rules}
+use Rattle.std.proofs.Common.{◌≡◌, ℕ, zero, suc, ◌+◌, ◌-◌, ◌<◌, ◌≤◌, true, cond, ltb, List, [], ◌∷◌, length, sum_by, refl, ap, ◌∙◌, add-zero, add-suc, arith, rules}
 use Rattle.std.proofs.lemmas.List.Recursion.{is_sum_by}
+use Rattle.std.proofs.lemmas.Bool.{le-ltb}
 use Rattle.std.proofs.lemmas.Bool.Decides.{nat_tests}
 use Rattle.cdf.specs.declared.tables.edges.Edge.{Edge}
 use Rattle.cdf.specs.declared.tables.edges.Edge.TheVariants as edge
@@ -24,7 +25,16 @@ top_back : (vs : List ℕ) (b k : ℕ) → LawfulTable vs → top vs (b + k) ≤
 top_back vs b zero falls = rw add-zero (omega arith)
 top_back vs b (suc k) falls = let f = top_falls vs (b + k) falls in let g = top_back vs b k falls in rw add-suc (omega arith)
 
-widths_most : (vs : List ℕ) (b : ℕ) (ss : List ℕ) → LawfulTable vs → Rising b ss → widths (length vs) vs ss ≤ top vs b
+-- a symbol that the table has not adds no width
+width_out : (count : ℕ) (vs : List ℕ) (s : ℕ) (ss : List ℕ) → count ≤ s → widths count vs (s ∷ ss) ≡ widths count vs ss
+width_out count vs s ss l = ap (λ b. cond b (fl_at vs s - fh_at count vs s) 0 + widths count vs ss) (le-ltb s count l) ∙ (let e : 0 + widths count vs ss ≡ widths count vs ss = omega arith in e)
+
+-- symbols from the number of symbols on have no width, in any table
+none_past : (count : ℕ) (vs : List ℕ) (b : ℕ) (ss : List ℕ) → Rising b ss → count ≤ b → widths count vs ss ≡ 0
+none_past count vs b [] r l = refl
+none_past count vs b (s ∷ ss) r l = width_out count vs s ss (omega (arith, r.0)) ∙ none_past count vs (suc s) ss r.1 (omega (arith, r.0))
+
+pub widths_most : (vs : List ℕ) (b : ℕ) (ss : List ℕ) → LawfulTable vs → Rising b ss → widths (length vs) vs ss ≤ top vs b
 widths_most vs b [] falls r = omega arith
 widths_most vs b (s ∷ ss) falls r =
     let e : b + (s - b) ≡ s = omega (arith, r.0) in

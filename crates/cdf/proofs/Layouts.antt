@@ -1,6 +1,6 @@
 -- The tables of the layout lie apart from each other and from the fillers, so that a symbol leaves the words sound.
-use Rattle.std.proofs.Common.{◌≡◌, ℕ, suc, ◌+◌, ◌<◌, ◌≤◌, Bool, true, ◌&&◌, ◌||◌, T, eqb, ltb, leb, ◌⊎◌, List, [], ◌∷◌, length, get_or, take, drop, sym, refl, ap, ◌∙◌, subst, inl, inr, arith}
-use lib.Seq.{length-sets}
+use Rattle.std.proofs.Common.{◌≡◌, ℕ, zero, suc, ◌+◌, ◌<◌, ◌≤◌, Bool, true, ◌&&◌, ◌||◌, T, eqb, ltb, leb, ◌⊎◌, List, [], ◌∷◌, length, get_or, take, drop, sym, refl, ap, ◌∙◌, subst, ap₂, inl, inr, arith}
+use lib.Seq.{sets, length-sets}
 use Rattle.std.specs.List.{list_all, list_any}
 use Rattle.std.proofs.lemmas.Bool.{cases_lt, ltb-true, leb-true, eqb-true, le-leb, ne_eqb, and_parts, and_from, or_cases}
 use Rattle.std.proofs.lemmas.List.{length-take, length-drop, get_or_past}
@@ -8,6 +8,7 @@ use Rattle.std.proofs.lemmas.List.Folds.{Any-from_list_any}
 use Rattle.std.proofs.lemmas.List.Recursion.{and_at, and_from_places}
 use Rattle.std.proofs.lemmas.List.Sums.{AllPass-from_list_all}
 use Rattle.cdf.specs.Layout.{words_in_all, tables, small_tables, large_tables, fillers, descends, all_descend, all_zero, lawful, table_sizes, in_layout, OneLayout, WordsStaySound}
+use Rattle.cdf.specs.Lists.{Each}
 use Rattle.cdf.specs.Words.{Words, Table, table, words_of, updated, adapted, Descends}
 use Rattle.cdf.proofs.Adapting.{table_stays_lawful, length_moved}
 use Rattle.cdf.proofs.Ranges.{all_below, true_below}
@@ -72,8 +73,12 @@ sizes_placed : T (all_below words_in_all (λ f. eqb (get_or table_sizes f 0) 0 |
 unfolding tables small_tables large_tables fillers table_sizes
 sizes_placed = tt
 
+-- so each table of the layout
+place_of : (t : Table) → in_layout t ≡ true → (leb (t.first + t.count) words_in_all ≡ true) × ((list_all (clear t) tables ≡ true) × (list_all (off t) fillers ≡ true))
+place_of t h = let p = and_parts (leb (t.first + t.count) words_in_all) _ (each_table placed sizes_placed t h) in (p.0, and_parts (list_all (clear t) tables) _ p.1)
+
 pub table_inside : (t : Table) → in_layout t ≡ true → t.first + t.count ≤ words_in_all
-table_inside t h = leb-true _ words_in_all (and_parts (leb (t.first + t.count) words_in_all) _ (each_table placed sizes_placed t h)).0
+table_inside t h = leb-true _ words_in_all (place_of t h).0
 
 descends_test : (top : ℕ) (vs : List ℕ) → Descends top vs → descends top vs ≡ true
 descends_test top [] h = absurd h
@@ -99,16 +104,17 @@ table_lawful w t h fits =
     let there = and_at (all_descend w) (λ u. descends 32768 (words_of w u)) refl (λ _ _. refl) tables found.0 found.1 found.2 (and_parts (all_descend w tables) (all_zero w fillers) fits).0 in
     subst (λ (u : Table). descends 32768 (words_of w u) ≡ true) (found.3 ∙ sym (same_table t found.1 found.4)) there
 
-pub words_stay_sound : WordsStaySound
-unfolding lawful
-words_stay_sound w t s h sound = record {
-  number = length-sets w t.first vs ∙ sound.number;
-  fits = and_from _ _
-      (and_from_places (all_descend after) (λ u. descends 32768 (words_of after u)) refl (λ _ _. refl) tables t
-      (λ i l. each (get_or tables i t) (AllPass-from_list_all (clear t) tables place.1.0 i t l) (and_at (all_descend w) (λ u. descends 32768 (words_of w u)) refl (λ _ _. refl) tables i t l law.0)))
-      (and_from_places (all_zero after) (λ i. eqb (get_or after i 0) 0) refl (λ _ _. refl) fillers 0
-      (λ k l. zero (get_or fillers k 0) (AllPass-from_list_all (off t) fillers place.1.1 k 0 l) (and_at (all_zero w) (λ i. eqb (get_or w i 0) 0) refl (λ _ _. refl) fillers k 0 l law.1)));
-}
+-- what holds of each element holds at each place
+each_at : {A : Type 0} (P : A → Type 0) (xs : List A) (i : ℕ) (d : A) → i < length xs → Each P xs → P (get_or xs i d)
+each_at P [] i d l e = absurd (omega arith)
+each_at P (x ∷ xs) zero d l e = e.0
+each_at P (x ∷ xs) (suc i) d l e = each_at P xs i d (omega arith) e.1
+
+-- the tables stay lawful, whatever the fillers hold
+stays_each : (w : Words) (t : Table) (s : ℕ) → in_layout t ≡ true → length w ≡ words_in_all → all_descend w tables ≡ true → all_descend (updated w t s) tables ≡ true
+stays_each w t s h number law =
+    and_from_places (all_descend after) (λ u. descends 32768 (words_of after u)) refl (λ _ _. refl) tables t
+    (λ i l. each (get_or tables i t) (AllPass-from_list_all (clear t) tables (place_of t h).1.0 i t l) (and_at (all_descend w) (λ u. descends 32768 (words_of w u)) refl (λ _ _. refl) tables i t l law))
   where
     vs : List ℕ
     vs = adapted t.count (words_of w t) s
@@ -116,14 +122,8 @@ words_stay_sound w t s h sound = record {
     after : Words
     after = updated w t s
 
-    law : (all_descend w tables ≡ true) × (all_zero w fillers ≡ true)
-    law = and_parts (all_descend w tables) (all_zero w fillers) sound.fits
-
-    place : (leb (t.first + t.count) words_in_all ≡ true) × ((list_all (clear t) tables ≡ true) × (list_all (off t) fillers ≡ true))
-    place = let p = and_parts (leb (t.first + t.count) words_in_all) _ (each_table placed sizes_placed t h) in (p.0, and_parts (list_all (clear t) tables) _ p.1)
-
     fits : t.first + t.count ≤ length w
-    fits = omega (arith, table_inside t h, sound.number)
+    fits = omega (arith, table_inside t h, number)
 
     long : length vs ≡ t.count
     long = length_moved _ s 0 (words_of w t) ∙ simp (length-take, length-drop) (omega (arith, fits))
@@ -144,9 +144,29 @@ words_stay_sound w t s h sound = record {
         go (inl e) = let k : t.first + length vs ≤ u.first = omega (arith, long, leb-true _ u.first e) in rw (sets_before vs w t.first u.first k) d
         go (inr e) = rest (or_cases (leb (u.first + u.count) t.first) _ e)
 
-    zero : (i : ℕ) → off t i ≡ true → eqb (get_or w i 0) 0 ≡ true → eqb (get_or after i 0) 0 ≡ true
-    zero i c z = go (or_cases (leb (suc i) t.first) _ c)
-      where
-        go : (leb (suc i) t.first ≡ true) ⊎ (leb (t.first + t.count) i ≡ true) → eqb (get_or after i 0) 0 ≡ true
-        go (inl e) = rw (getD_sets_out vs w t.first i (inl (leb-true (suc i) t.first e))) z
-        go (inr e) = rw (getD_sets_out vs w t.first i (inr (omega (arith, long, leb-true _ i e)))) z
+-- what lies off a table stays zero or not
+zeros_stay : (w : Words) (t : Table) (vs : List ℕ) → length vs ≤ t.count → (is : List ℕ) → list_all (off t) is ≡ true → all_zero (sets w t.first vs) is ≡ all_zero w is
+zeros_stay w t vs l [] h = refl
+zeros_stay w t vs l (i ∷ is) h =
+    let p = and_parts (off t i) (list_all (off t) is) h in
+    ap₂ (λ x y. eqb x 0 && y) (getD_sets_out vs w t.first i (go (or_cases (leb (suc i) t.first) _ p.0))) (zeros_stay w t vs l is p.1)
+  where
+    go : (leb (suc i) t.first ≡ true) ⊎ (leb (t.first + t.count) i ≡ true) → (i < t.first) ⊎ (t.first + length vs ≤ i)
+    go (inl e) = inl (leb-true (suc i) t.first e)
+    go (inr e) = inr (omega (arith, l, leb-true _ i e))
+
+pub words_stay_sound : WordsStaySound
+unfolding lawful
+words_stay_sound w t s h sound = record {
+  number = length-sets w t.first vs ∙ sound.number;
+  fits = and_from _ _ (stays_each w t s h sound.number law.0) (zeros_stay w t vs short fillers (place_of t h).1.1 ∙ law.1);
+}
+  where
+    vs : List ℕ
+    vs = adapted t.count (words_of w t) s
+
+    law : (all_descend w tables ≡ true) × (all_zero w fillers ≡ true)
+    law = and_parts (all_descend w tables) (all_zero w fillers) sound.fits
+
+    short : length vs ≤ t.count
+    short = rw (length_moved _ s 0 (words_of w t)) (rw length-take (omega arith))

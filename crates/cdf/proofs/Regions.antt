@@ -18,10 +18,10 @@ use Rattle.cdf.proofs.Stores.{sets_before, sets_behind, sets_over, sets_own, set
 abbrev pub Between : ℕ → ℕ → ℕ → Type 0
 Between a f b = (a ≤ f) × (f ≤ b)
 
-small_range : (f : ℕ) → T (small_place f) → (f ≤ 18) ⊎ ((f ≡ 302) ⊎ (Between 318 f 354 ⊎ Between 374 f 410))
+pub small_range : (f : ℕ) → T (small_place f) → (f ≤ 18) ⊎ ((f ≡ 302) ⊎ (Between 318 f 354 ⊎ Between 374 f 410))
 small_range f h = let e = T→true (small_place f) h in grind (arith, nat_tests)
 
-large_range : (f : ℕ) → T (large_place f) → Between 22 f 286 ⊎ ((f ≡ 358) ⊎ (f ≡ 414))
+pub large_range : (f : ℕ) → T (large_place f) → Between 22 f 286 ⊎ ((f ≡ 358) ⊎ (f ≡ 414))
 large_range f h = let e = T→true (large_place f) h in grind (arith, nat_tests)
 
 -- windows of the two kinds have no word in common
@@ -55,10 +55,10 @@ descend_apart place n w g vs f (t ∷ ts) h =
     (words_apart w t g vs (f t (and_first (place t.first) (leb t.count n) here) (leb→le t.count n (and_second (place t.first) (leb t.count n) here))))
     (descend_apart place n w g vs f ts (and_second (place t.first && leb t.count n) (all_placed place n ts) h))
 
-small_untouched : (w : Words) (g : ℕ) (vs : List ℕ) → T (large_place g) → length vs ≤ 16 → all_descend (sets w g vs) small_tables ≡ all_descend w small_tables
+pub small_untouched : (w : Words) (g : ℕ) (vs : List ℕ) → T (large_place g) → length vs ≤ 16 → all_descend (sets w g vs) small_tables ≡ all_descend w small_tables
 small_untouched w g vs h k = descend_apart small_place 4 w g vs (λ t p l. let a = apart t.first g p h in grind arith) small_tables small_placed
 
-large_untouched : (w : Words) (f : ℕ) (us : List ℕ) → T (small_place f) → length us ≤ 4 → all_descend (sets w f us) large_tables ≡ all_descend w large_tables
+pub large_untouched : (w : Words) (f : ℕ) (us : List ℕ) → T (small_place f) → length us ≤ 4 → all_descend (sets w f us) large_tables ≡ all_descend w large_tables
 large_untouched w f us h k = descend_apart large_place 16 w f us (λ t p l. let a = apart f t.first h p in grind arith) large_tables large_placed
 
 zeros_apart : (n a : ℕ) (w : Words) (f : ℕ) (vs : List ℕ) → (a + n ≤ f) ⊎ (f + length vs ≤ a) → all_zero (sets w f vs) (from a n) ≡ all_zero w (from a n)

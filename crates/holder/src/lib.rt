@@ -1,15 +1,15 @@
 //! A caller that holds its trial in an `Option`. The check refuses it where the trial is forgotten, or taken back after
-//! it was kept.
+//! it was kept. And one that sees of any stage that at most 16 trials are open.
 #![tactic(auto)]
 
-ghost use Rattle.std.specs.Prelude.{◌≡◌, ℕ, true, false, List, length, drop, is_ok, is_some, IfErr, Some, None};
+ghost use Rattle.std.specs.Prelude.{◌≡◌, ℕ, ◌+◌, true, false, List, length, drop, is_ok, is_some, IfErr, Some, None};
 ghost use Rattle.holder.specs.Held.{depth_held};
 ghost use Rattle.av1.specs.declared.tile.Cell.{Cell};
 ghost use Rattle.cdf.specs.declared.entry.Entry.{Entry};
 ghost use Rattle.model.specs.Calls.{back_step, keep_step};
 ghost use Rattle.model.specs.Decisions.{stage as subject};
 ghost use Rattle.model.specs.Runs.{Lent};
-ghost use Rattle.stage.specs.View.{kept_of, lanes, units_of, world};
+ghost use Rattle.stage.specs.View.{kept_of, lanes, open_trials, units_of, world};
 
 use av1::{Cell, Refusal};
 use journal::Log;
@@ -71,4 +71,11 @@ pub fn take_back_and_keep<S: Sink>(
         None => kept,
         Some(_) => unreachable!(),
     }
+}
+
+/// How many more trials can be opened.
+pub fn trials_left(stage: &Stage) -> usize
+    ensures { result + open_trials stage.now.journal ≡ 16 }
+{
+    16 - stage.trials()
 }

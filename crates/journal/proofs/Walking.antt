@@ -19,6 +19,12 @@ pub undone_append : {R S : Type 0} (put : R → S → S) (rs qs : List R) (s : S
 undone_append put [] qs s = refl
 undone_append put (r ∷ rs) qs s = ap (put r) (undone_append put rs qs s)
 
+-- a walk seen through h
+pub undone_through : {R S U : Type 0} (f : R → S → S) (g : R → U → U) (h : S → U) → ((r : R) (s : S) → h (f r s) ≡ g r (h s))
+    → (rs : List R) (s : S) → h (undone f rs s) ≡ undone g rs (h s)
+undone_through f g h step [] s = refl
+undone_through f g h step (r ∷ rs) s = step r (undone f rs s) ∙ ap (g r) (undone_through f g h step rs s)
+
 -- the records of the changes since s, put back, give s
 pub logged_back : {R S : Type 0} {put : R → S → S} {holds : R → S → Type 0} {apart : R → S → S → Type 0} → Restoring put holds apart
     → (rs : List R) (s u : S) → Logged holds apart rs s u → undone put rs u ≡ s

@@ -47,10 +47,12 @@ pub fn cases(heap: Global, table: &str) -> Result<Vec<Case>, AllocError> {
     let mut cases = Vec::new(heap);
     let mut script = String::new(heap);
     let mut wanted = Vec::new(heap);
-    // The line that ended the script before.
+    // The line that ended the script before, and the one behind those that were read.
     let mut before = 0;
+    let mut end = 1;
     for (i, line) in table.lines().enumerate() {
         let at = i + 1;
+        end = at + 1;
         if line == "---" {
             cases.push(Case {
                 script,
@@ -68,7 +70,6 @@ pub fn cases(heap: Global, table: &str) -> Result<Vec<Case>, AllocError> {
             }
         }
     }
-    let end = table.lines().count() + 1;
     cases.push(Case {
         script,
         wanted,

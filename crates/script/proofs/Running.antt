@@ -1,16 +1,11 @@
 -- One line more of a script.
-use Rattle.std.proofs.Common.{◌≡◌, ℕ, ◌+◌, ◌<◌, List, [], ◌∷◌, ◌++◌, length, None, Some, Ok, Err, Option, Result, sym, refl, ap, ◌∙◌, subst, inl, inr, Bor}
-use Rattle.std.specs.Iterator.{Yields}
+use Rattle.std.proofs.Common.{◌≡◌, ℕ, ◌+◌, ◌<◌, List, [], ◌∷◌, ◌++◌, length, Some, Ok, Err, Option, Result, sym, refl, ap, ◌∙◌, subst, inl, inr, Bor}
 use Rattle.std.specs.Iterator.Adapters.{enumerate_source, enumerate_count, enumerate_steps}
 use Rattle.std.specs.Str.Iter.{lines_rest, lines_steps}
 use Rattle.std.specs.Str.Lines as lines
 use Rattle.std.specs.declared.iter.Enumerate.{Enumerate}
 use Rattle.std.specs.declared.str.Lines as text
-use Rattle.std.proofs.lemmas.Iterator.{items_from_drains}
-use Rattle.std.proofs.lemmas.Iterator.Consumers.{YieldsList-from_enumerate}
-use Rattle.std.proofs.lemmas.Iterator.Splits.{YieldsList-from_lines}
-use Rattle.std.proofs.lemmas.List.{length-map, nil_from_length}
-use Rattle.std.proofs.lemmas.List.FromFn.{length-enumerate_from}
+use Rattle.std.proofs.lemmas.List.{nil_from_length}
 use Rattle.std.proofs.lemmas.List.Sums.{fold_push}
 use Rattle.script.specs.declared.fault.Fault.{Fault}
 use Rattle.script.specs.declared.fault.ScriptError.{ScriptError}
@@ -85,9 +80,3 @@ finished text rest n h cs (Ok s) o e f =
 finished text rest n h cs (Err error.Memory) o e f = tt
 finished text rest n h cs (Err (error.Line k g w)) o e f =
     (o.seen, rest, o.cut, inr (nil_from_length rest e, record { number = n; head = h; calls = cs }, o.ran, f.0, f.1.0, f.1.1))
-
--- all that came are the lines of the text
-pub all_came : (s t u : Enumerate text.Lines) (bs : List ℕ) (ys : List (ℕ × Bor (List ℕ))) → lines_rest (enumerate_source s) ≡ bs → enumerate_count s ≡ 0 → Yields (enumerate_steps lines_steps) s ys t → enumerate_steps lines_steps t None u → length (lines.lines bs) ≡ length ys
-all_came s t u bs ys e z came end =
-    let items = items_from_drains ys (t, came, λ _. (u, end)) (YieldsList-from_enumerate (YieldsList-from_lines bs e) z) in
-    sym (length-enumerate_from 0 (lines.lines bs)) ∙ sym (ap length items) ∙ length-map ys (λ p. (p.0, p.1.now))

@@ -1,8 +1,6 @@
 -- The words of a line.
 use Rattle.std.specs.Prelude.{ℕ, Bool, cond, ◌||◌, List, [], ◌∷◌, ◌++◌, ◌==◌}
-use Rattle.std.specs.List.{slice_split}
-use Rattle.std.specs.Str.Iter.{split_text, split_has_more}
-use Rattle.std.specs.declared.str.Split.{Split}
+use Rattle.std.specs.Borrow.{Bor}
 
 -- a space, a tab or a carriage return
 abbrev pub blank : ℕ → Bool
@@ -21,15 +19,10 @@ words_from w (b ∷ bs) = cond (b == 35) (flush w) (cond (blank b) (flush w ++ w
 abbrev pub words_of : List ℕ → List (List ℕ)
 words_of line = words_from [] line
 
--- the words among the parts of a line
-abbrev pub words_among : List (List ℕ) → List (List ℕ)
-words_among [] = []
-words_among (p ∷ ps) = flush p ++ words_among ps
+-- what ends a word: a blank, or a comment
+abbrev pub ends_word : ℕ → Bool
+ends_word b = b == 35 || blank b
 
--- the parts between blanks that are still to come
-abbrev pub parts : {P : Type 0} → Split P → List (List ℕ)
-parts s = cond (split_has_more s) (slice_split blank (split_text s)) []
-
--- the words of a line that are not read yet
-abbrev pub unread : {P : Type 0} → Split P → List (List ℕ)
-unread s = words_among (parts s)
+-- the words of a line that are not read yet: those of what is left of it
+abbrev pub unread : Bor (List ℕ) → List (List ℕ)
+unread rest = words_of rest.now

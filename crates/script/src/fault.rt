@@ -33,11 +33,12 @@ pub enum Fault {
     Late,
 }
 
-impl fmt::Display for Fault {
-    ghost output = { λ f. Some (fault_text f) };
-
-    fn fmt<W: fmt::Write>(&self, f: &mut fmt::Formatter<W>) -> fmt::Result {
-        f.write_str(match self {
+impl Fault {
+    /// What is wrong, in words: text that is there without memory or a writer.
+    pub fn text(self) -> &'static str
+        ensures { result.now ≡ fault_text self }
+    {
+        match self {
             Fault::UnknownWord => "unknown word",
             Fault::MissingWord => "missing word after",
             Fault::ExtraWord => "word too much:",
@@ -54,7 +55,15 @@ impl fmt::Display for Fault {
             Fault::SecondSink => "second sink line:",
             Fault::SecondLog => "second log line:",
             Fault::Late => "after the first call:",
-        })
+        }
+    }
+}
+
+impl fmt::Display for Fault {
+    ghost output = { λ f. Some (fault_text f) };
+
+    fn fmt<W: fmt::Write>(&self, f: &mut fmt::Formatter<W>) -> fmt::Result {
+        f.write_str(self.text())
     }
 }
 

@@ -62,6 +62,37 @@ const SIZES: [BlockSize; 22] = [
     BlockSize::BLOCK_64X16,
 ];
 
+// Looked up by a match: a search calls a comparison for each name, and took two to three times as long.
+fn parse_size(word: &str) -> Option<BlockSize>
+    ensures { MatchOption result ((size : BlockSize) → word.now ≢ size_name size) (λ size. word.now ≡ size_name size) }
+{
+    match word {
+        "4X4" => Some(BlockSize::BLOCK_4X4),
+        "4X8" => Some(BlockSize::BLOCK_4X8),
+        "8X4" => Some(BlockSize::BLOCK_8X4),
+        "8X8" => Some(BlockSize::BLOCK_8X8),
+        "8X16" => Some(BlockSize::BLOCK_8X16),
+        "16X8" => Some(BlockSize::BLOCK_16X8),
+        "16X16" => Some(BlockSize::BLOCK_16X16),
+        "16X32" => Some(BlockSize::BLOCK_16X32),
+        "32X16" => Some(BlockSize::BLOCK_32X16),
+        "32X32" => Some(BlockSize::BLOCK_32X32),
+        "32X64" => Some(BlockSize::BLOCK_32X64),
+        "64X32" => Some(BlockSize::BLOCK_64X32),
+        "64X64" => Some(BlockSize::BLOCK_64X64),
+        "64X128" => Some(BlockSize::BLOCK_64X128),
+        "128X64" => Some(BlockSize::BLOCK_128X64),
+        "128X128" => Some(BlockSize::BLOCK_128X128),
+        "4X16" => Some(BlockSize::BLOCK_4X16),
+        "16X4" => Some(BlockSize::BLOCK_16X4),
+        "8X32" => Some(BlockSize::BLOCK_8X32),
+        "32X8" => Some(BlockSize::BLOCK_32X8),
+        "16X64" => Some(BlockSize::BLOCK_16X64),
+        "64X16" => Some(BlockSize::BLOCK_64X16),
+        _ => None,
+    }
+}
+
 /// The name of a size: its width and height in pixels, as `64X32`.
 impl Named for BlockSize {
     ghost name = { size_name };
@@ -104,6 +135,10 @@ impl Named for BlockSize {
     fn all() -> &'static [BlockSize] {
         &SIZES
     }
+
+    fn from_name(word: &str) -> Option<BlockSize> {
+        parse_size(word)
+    }
 }
 
 const PARTITIONS: [PartitionType; 10] = [
@@ -118,6 +153,25 @@ const PARTITIONS: [PartitionType; 10] = [
     PartitionType::PARTITION_HORZ_4,
     PartitionType::PARTITION_VERT_4,
 ];
+
+// The same of partitions.
+fn parse_partition(word: &str) -> Option<PartitionType>
+    ensures { MatchOption result ((partition : PartitionType) → word.now ≢ partition_name partition) (λ partition. word.now ≡ partition_name partition) }
+{
+    match word {
+        "NONE" => Some(PartitionType::PARTITION_NONE),
+        "HORZ" => Some(PartitionType::PARTITION_HORZ),
+        "VERT" => Some(PartitionType::PARTITION_VERT),
+        "SPLIT" => Some(PartitionType::PARTITION_SPLIT),
+        "HORZ_A" => Some(PartitionType::PARTITION_HORZ_A),
+        "HORZ_B" => Some(PartitionType::PARTITION_HORZ_B),
+        "VERT_A" => Some(PartitionType::PARTITION_VERT_A),
+        "VERT_B" => Some(PartitionType::PARTITION_VERT_B),
+        "HORZ_4" => Some(PartitionType::PARTITION_HORZ_4),
+        "VERT_4" => Some(PartitionType::PARTITION_VERT_4),
+        _ => None,
+    }
+}
 
 /// The standard's name of a partition, without `PARTITION_`.
 impl Named for PartitionType {
@@ -149,6 +203,22 @@ impl Named for PartitionType {
     fn all() -> &'static [PartitionType] {
         &PARTITIONS
     }
+
+    fn from_name(word: &str) -> Option<PartitionType> {
+        parse_partition(word)
+    }
+}
+
+// The same of precisions.
+fn parse_precision(word: &str) -> Option<MvSubpelPrecision>
+    ensures { MatchOption result ((precision : MvSubpelPrecision) → word.now ≢ precision_name precision) (λ precision. word.now ≡ precision_name precision) }
+{
+    match word {
+        "NONE" => Some(MvSubpelPrecision::MV_SUBPEL_NONE),
+        "LOW" => Some(MvSubpelPrecision::MV_SUBPEL_LOW_PRECISION),
+        "HIGH" => Some(MvSubpelPrecision::MV_SUBPEL_HIGH_PRECISION),
+        _ => None,
+    }
 }
 
 impl Named for MvSubpelPrecision {
@@ -176,6 +246,10 @@ impl Named for MvSubpelPrecision {
             MvSubpelPrecision::MV_SUBPEL_LOW_PRECISION,
             MvSubpelPrecision::MV_SUBPEL_HIGH_PRECISION,
         ]
+    }
+
+    fn from_name(word: &str) -> Option<MvSubpelPrecision> {
+        parse_precision(word)
     }
 }
 

@@ -1,5 +1,3 @@
-ghost use Rattle.std.specs.Prelude.{◌+◌, length};
-ghost use Rattle.std.specs.Str.Lines.{lines};
 ghost use Rattle.script.specs.Scripts.{Finishes, Parses};
 
 use crate::fault::{Fault, ScriptError};
@@ -37,13 +35,12 @@ pub struct Script {
     pub lines: Vec<Line>,
 }
 
-/// The script that the lines of a text make.
-fn finish(heap: Global, head: Head, text: &str, calls: Vec<Line>) -> Result<Script, ScriptError>
-    ensures { Finishes head (length (lines text.now) + 1) calls.items result }
+/// The script that the lines make, of which the last is the one before line `end`.
+fn finish(heap: Global, head: Head, end: usize, calls: Vec<Line>) -> Result<Script, ScriptError>
+    ensures { Finishes head end calls.items result }
 {
     // Not `ok_or_else`: tried, and the proof does not close, as what its closure answers is out of reach there.
     let Some(tile) = head.tile else {
-        let end = text.lines().count() + 1;
         return Err(ScriptError::at(heap, end, Fault::NoTile, "end of script"));
     };
     Ok(Script {
@@ -62,11 +59,14 @@ pub fn parse(heap: Global, text: &str) -> Result<Script, ScriptError>
 {
     let mut head = Head::new();
     let mut lines = Vec::new(heap);
+    // The line behind those that were read: counted on the way, so that no text is gone through twice.
+    let mut end = 1;
     for (i, line) in text.lines().enumerate() {
         let number = i + 1;
+        end = number + 1;
         if let Some(written) = head.read_line(heap, number, line)? {
             lines.push(Line { number, written })?;
         }
     }
-    finish(heap, head, text, lines)
+    finish(heap, head, end, lines)
 }

@@ -1,23 +1,46 @@
-ghost use Rattle.std.specs.Prelude.{◌≡◌, ℕ, drop};
+ghost use Rattle.std.specs.Prelude.{◌≡◌, ◌<◌, ◌≤◌, true, false, length, drop, take, slice_index, All};
 ghost use Rattle.std.specs.Option.{option_map};
-ghost use Rattle.std.specs.Char.{char_set_contains};
-ghost use Rattle.std.specs.Str.Iter.{split_pattern};
-ghost use Rattle.script.specs.Splits.{blank, words_of, unread};
+ghost use Rattle.script.specs.Splits.{blank, ends_word, unread, words_of};
 ghost use Rattle.script.specs.Statements.{first, wanted, end_at};
 
 use crate::fault::Fault;
 use crate::word::Word;
-use std::str::Split;
 
-/// Words are separated by spaces and tabs; a carriage return counts as one of these.
-const BLANKS: [char; 3] = [' ', '\t', '\r'];
+// Words are separated by spaces and tabs; a carriage return counts as one of these. Bytes are compared, not characters, so
+// that none has to be decoded.
+fn is_blank(byte: u8) -> bool
+    ensures { result ≡ blank byte }
+{
+    byte == b' ' || byte == b'\t' || byte == b'\r'
+}
+
+// How many blanks a text begins with.
+fn count_blanks(text: &str) -> usize
+    ensures within { result ≤ length text.now }
+    ensures blanks { All (λ b. blank b ≡ true) (take result text.now) }
+    ensures dark { result < length text.now → blank (slice_index text.now result) ≡ false }
+{
+    text.bytes()
+        .position(|byte| !is_blank(byte))
+        .unwrap_or(text.len())
+}
+
+// How long the word is that a text begins with. A comment ends it too.
+fn word_len(text: &str) -> usize
+    ensures within { result ≤ length text.now }
+    ensures word { All (λ b. ends_word b ≡ false) (take result text.now) }
+    ensures end { result < length text.now → ends_word (slice_index text.now result) ≡ true }
+{
+    text.bytes()
+        .position(|byte| byte == b'#' || is_blank(byte))
+        .unwrap_or(text.len())
+}
 
 /// The words of a line that are not read yet, and the last one that was.
 #[derive(Drop)]
 pub(crate) struct Words<'a> {
-    rest: Split<'a, [char; 3]>,
+    rest: &'a str,
     last: &'a str,
-    ghost blanks: { (c : ℕ) → char_set_contains (split_pattern rest) c ≡ blank c },
 }
 
 impl<'a> Words<'a> {
@@ -25,9 +48,8 @@ impl<'a> Words<'a> {
     pub(crate) fn new(line: &'a str) -> Words<'a>
         ensures { unread result.rest ≡ words_of line.now }
     {
-        let words = line.split_once('#').map_or(line, |(words, _)| words);
         Words {
-            rest: words.split(BLANKS),
+            rest: line,
             last: "",
         }
     }
@@ -44,9 +66,14 @@ impl<'a> Words<'a> {
         ensures value { option_map (λ x. x.now) result ≡ first (unread self.old.rest) }
         ensures after { unread self.new.rest ≡ drop 1 (unread self.old.rest) }
     {
-        let word = self.rest.find(|word| !word.is_empty());
-        self.last = word.unwrap_or(self.last);
-        word
+        let (_, text) = self.rest.split_at(count_blanks(self.rest));
+        let (word, rest) = text.split_at(word_len(text));
+        self.rest = rest;
+        if word.is_empty() {
+            return None;
+        }
+        self.last = word;
+        Some(word)
     }
 
     /// The next word, read as what has to be there.

@@ -1,5 +1,5 @@
 -- A symbol in the stage: its window is logged, its entry joins the record, and its table adapts.
-use Rattle.std.proofs.Common.{◌≡◌, ℕ, ◌+◌, ◌<◌, ◌≤◌, Bool, true, false, cond, ◌&&◌, ltb, leb, List, [], ◌∷◌, ◌++◌, length, reverse, replicate, sym, refl, ap, ◌∙◌, ap₂, arith, le→leb, lt→ltb, leb→le}
+use Rattle.std.proofs.Common.{◌≡◌, ℕ, ◌+◌, ◌<◌, ◌≤◌, Bool, true, false, not, cond, ◌&&◌, ltb, leb, List, [], ◌∷◌, ◌++◌, length, reverse, replicate, sym, refl, ap, ◌∙◌, ap₂, arith, le→leb, lt→ltb, leb→le}
 use Rattle.std.proofs.lemmas.List.{length-reverse}
 use Rattle.arrayvec.specs.ArrayVec.{ArrayVec}
 use Rattle.cdf.specs.declared.entry.Entry.{Entry}
@@ -9,7 +9,7 @@ use Rattle.cdf.specs.Words.{Words, Table, table, updated}
 use Rattle.cdf.proofs.Booleans.{true→T, T→true, not-T→false}
 use Rattle.cdf.proofs.Regions.{PlaceOf, table_place, inside_small, inside_large}
 use Rattle.journal.specs.declared.Mark.{Mark}
-use Rattle.model.specs.Calls.{log_if, small_log}
+use Rattle.model.specs.Calls.{log_if, small_log, large_log}
 use Rattle.model.specs.Coders.{whole}
 use Rattle.model.specs.Decisions.{window_at, add_if}
 use Rattle.model.specs.Runs.{Lane, logged}
@@ -32,6 +32,9 @@ same_marks j k h = ap (λ (v : ArrayVec Mark). reverse v.items) h.marks
 
 pub same_trials : (j k : Journal) → OnlySpots j k → open_trials j ≡ open_trials k
 same_trials j k h = ap (λ (v : ArrayVec Mark). length v.items) h.marks
+
+pub still_few : (j k : Journal) → OnlySpots j k → open_trials k ≤ 16 → open_trials j ≤ 16
+still_few j k h few = omega (arith, same_trials j k h, few)
 
 pub only_spots_then : (i j k : Journal) → OnlySpots i j → OnlySpots j k → OnlySpots i k
 only_spots_then i j k a b = record { marks = a.marks ∙ b.marks; small = a.small ∙ b.small; large = a.large ∙ b.large }
@@ -61,6 +64,15 @@ log_open {R} j l rs h = go (marks_of j) (omega (arith, length-reverse j.marks.it
 -- the lane that a table's window goes to
 pub small_window : (w : Words) (first n : ℕ) → n ≤ 4 → small_log (whole (table first n)) w ≡ window_at 4 w first ∷ []
 small_window w first n h = ap (λ b. add_if b (window_at 4 w first) []) (T→true (leb n 4) (le→leb n 4 h))
+
+pub no_small_window : (w : Words) (first n : ℕ) → 4 < n → small_log (whole (table first n)) w ≡ []
+no_small_window w first n h = ap (λ b. add_if b (window_at 4 w first) []) (not-T→false (leb n 4) (λ t. let k : n ≤ 4 = leb→le n 4 t in omega arith))
+
+pub large_window : (w : Words) (first n : ℕ) → 4 < n → large_log (whole (table first n)) w ≡ window_at 16 w first ∷ []
+large_window w first n h = ap (λ b. add_if (not b) (window_at 16 w first) []) (not-T→false (leb n 4) (λ t. let k : n ≤ 4 = leb→le n 4 t in omega arith))
+
+pub no_large_window : (w : Words) (first n : ℕ) → n ≤ 4 → large_log (whole (table first n)) w ≡ []
+no_large_window w first n h = ap (λ b. add_if (not b) (window_at 16 w first) []) (T→true (leb n 4) (le→leb n 4 h))
 
 pub log_none : {R : Type 0} (j : Journal) (l : Lane R) (rs : List R) → rs ≡ [] → l ≡ log_if (marks_of j) l rs
 log_none {R} j l rs e = none (marks_of j) ∙ sym (ap (λ z. log_if (marks_of j) l z) e)

@@ -1,5 +1,5 @@
 -- Trials of the stage are the model's: opened, kept, taken back.
-use Rattle.std.proofs.Common.{◌≡◌, ℕ, suc, ◌+◌, ◌-◌, ◌<◌, Bool, true, false, cond, not, ◌||◌, eqb, ltb, List, [], ◌∷◌, ◌++◌, length, reverse, get_or, take, Ok, Err, Result, sym, refl, ap, ◌∙◌, arith}
+use Rattle.std.proofs.Common.{◌≡◌, ℕ, suc, ◌+◌, ◌-◌, ◌<◌, ◌≤◌, Bool, true, false, cond, not, ◌||◌, eqb, ltb, List, [], ◌∷◌, ◌++◌, length, reverse, get_or, take, Ok, Err, Result, sym, refl, ap, ◌∙◌, arith}
 use mathlib.Core.Option.{Option, none, some}
 use Rattle.std.proofs.lemmas.List.{length-reverse, reverse-append, take_all, take_more}
 use Rattle.std.proofs.lemmas.Bool.{lt-ltb, le-ltb, ne_eqb}
@@ -54,11 +54,11 @@ module _ (memory : ℕ) (room : List Entry → ℕ) (s : State) (j : Journal) (l
   few_asked : unless (ltb (length here.marks) 16) no.TooManyTrials ≡ unless (ltb (open_trials j) 16) no.TooManyTrials
   few_asked = ap (λ n. unless (ltb n 16) no.TooManyTrials) (length-reverse j.marks.items)
 
-  pub open_refused : open_trials j ≡ 16 → (Err no.TooManyTrials, here) ≡ open_step memory room here
+  pub open_refused : 16 ≤ open_trials j → (Err no.TooManyTrials, here) ≡ open_step memory room here
   unfolding open_step
   open_refused h =
       by_refusal (suc (length here.marks)) here open_trial (refusal stage memory room here open_trial) (some no.TooManyTrials)
-      (few_asked ∙ ap (λ b. unless b no.TooManyTrials) (le-ltb (open_trials j) 16 (omega arith)))
+      (few_asked ∙ ap (λ b. unless b no.TooManyTrials) (le-ltb (open_trials j) 16 h))
 
   pub open_accepted : (n deep : ℕ) (i : Journal) → open_trials j < 16 → n ≡ length es → deep ≡ open_trials j + 1
       → i.marks.items ≡ j.marks.items ++ moment_at n ∷ [] → i.used ≡ j.used

@@ -62,6 +62,7 @@ pub struct Stage {
     pub(crate) contexts: Contexts,
     pub(crate) journal: Journal,
     ghost ends: { last ≤ 7 },
+    ghost few: { length journal.marks.items ≤ 16 },
     ghost over: { length contexts.above ≡ 512 },
     ghost beside: { length contexts.left ≡ 8 },
     ghost quiet: { (length journal.marks.items ≡ 0 → (journal.used.small ≡ 0) × (journal.used.large ≡ 0) × (journal.used.spots ≡ 0)) },

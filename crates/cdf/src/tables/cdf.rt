@@ -40,7 +40,11 @@ impl Cdf<'_> {
     fn width(&self, s: usize) -> u16
         ensures { result ≡ width_of (length self.now.words.now) self.now.words.now s }
     {
-        self.entry(s).map_or(0, |e| e.fl - e.fh)
+        if s >= self.words.len() {
+            return 0;
+        }
+        let (fl, fh) = around(self.words, s);
+        fl - fh
     }
 
     // The sum of the widths of the symbols that are like a SPLIT.

@@ -44,6 +44,10 @@ impl Tables {
         ensures entry { result ≡ edge_entry_if self.now.words (table first n) edge s }
         ensures lawful { IfSome result (λ e. is_entry e ≡ true) }
     {
+        // asked before any width is summed
+        if s >= 2 {
+            return None;
+        }
         let words = self.edge_table(first, n, edge)?;
         Cdf { words: &words }.entry(s)
     }

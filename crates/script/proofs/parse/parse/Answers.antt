@@ -1,10 +1,8 @@
-use Rattle.std.proofs.Common.{◌≡◌, ◌+◌, List, [], ◌∷◌, ◌++◌, length, vec_items, sym, ap, ◌∙◌, append-nil, rules, arith, length-append}
-use Rattle.std.specs.Iterator.Adapters.{enumerate_count}
-use Rattle.std.specs.Str.Lines.{lines}
+use Rattle.std.proofs.Common.{◌+◌, List, ◌++◌, vec_items, sym, ap, ◌∙◌, append-nil, rules, arith}
 use Rattle.std.proofs.lemmas.Result.{err_from_is_err_and}
 use Rattle.script.specs.declared.parse.Line.{Line}
 use Rattle.script.specs.Scripts.{numbered}
-use Rattle.script.proofs.Running.{next_line, one_more, failed, finished, all_came}
+use Rattle.script.proofs.Running.{next_line, one_more, failed, finished}
 use Rattle.script.proofs.parse.parse.Goals as goal
 
 pub returns-in_err-written : goal.returns-in_err-written
@@ -20,7 +18,7 @@ loop-i-preserved-in-Continue-branch-3 c =
     let put = c.in_ok-push.ensures.items ∙ ap (λ o. calls ++ numbered (c.in-Some.i + 1) o) (sym c.in-Some-2.is) in
     record {
       sofar = one_more c.args.text.now _ c.in-Some.line.now _ _ c.in-Some.i _ c.loop-i.head c.read_line.new.self calls _ c.in_ok-written.field-0 c.loop-i.invariant.sofar x c.in_ok-written.ensures put;
-      counted = omega (arith, x.count, length-append c.loop-i.yielded ((c.in-Some.i, c.in-Some.line) ∷ []));
+      ended = omega (arith, x.index, x.count);
       can_next = search rules;
       is_finite = search rules;
     }
@@ -32,13 +30,11 @@ loop-i-preserved c =
     let put = sym (append-nil calls) ∙ ap (λ o. calls ++ numbered (c.in-Some.i + 1) o) (sym c.in_default.is) in
     record {
       sofar = one_more c.args.text.now _ c.in-Some.line.now _ _ c.in-Some.i _ c.loop-i.head c.read_line.new.self calls calls c.in_ok-written.field-0 c.loop-i.invariant.sofar x c.in_ok-written.ensures put;
-      counted = omega (arith, x.count, length-append c.loop-i.yielded ((c.in-Some.i, c.in-Some.line) ∷ []));
+      ended = omega (arith, x.index, x.count);
       can_next = search rules;
       is_finite = search rules;
     }
 
 pub returns : goal.returns
 returns c =
-    let came = all_came c.into_iter-i-iterator.result c.loop-i.i-iterator c.next.new.self c.args.text.now c.loop-i.yielded (search rules) (search rules) c.loop-i.yielded_by c.in-None.ensures.steps in
-    let count : length (lines c.args.text.now) ≡ enumerate_count c.loop-i.i-iterator = came ∙ sym c.loop-i.invariant.counted in
-    finished c.args.text.now _ _ c.loop-i.head (vec_items c.loop-i.lines) c.finish.result c.loop-i.invariant.sofar c.in-None.ensures.steps.0.0.0 (rw count at c.finish.ensures)
+    finished c.args.text.now _ _ c.loop-i.head (vec_items c.loop-i.lines) c.finish.result c.loop-i.invariant.sofar c.in-None.ensures.steps.0.0.0 (rw c.loop-i.invariant.ended at c.finish.ensures)

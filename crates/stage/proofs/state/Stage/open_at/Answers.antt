@@ -1,4 +1,4 @@
-use Rattle.std.proofs.Common.{◌≡◌, ◌<◌, true, length, refl, rules}
+use Rattle.std.proofs.Common.{◌≡◌, ◌<◌, ◌≤◌, true, length, refl, arith, rules}
 use Rattle.std.proofs.lemmas.Bool.{both_ways}
 use Rattle.stage.specs.View.{open_trials, state_of}
 use Rattle.stage.proofs.Trials.{open_refused, open_accepted}
@@ -7,7 +7,8 @@ use Rattle.stage.proofs.state.Stage.open_at.Goals as goal
 pub returns-then-is_full : goal.returns-then-is_full
 returns-then-is_full g c =
     let s = c.args.self.now in
-    let many : open_trials s.journal ≡ 16 = search rules in
+    let full : open_trials s.journal ≡ 16 = search rules in
+    let many : 16 ≤ open_trials s.journal = omega (arith, full) in
     record { step = λ memory rooms l. open_refused (length memory) rooms (state_of s memory) s.journal l (g.S.Sink.list c.args.sink.now) many; still = λ h. refl }
 
 pub returns : goal.returns

@@ -35,7 +35,7 @@ invariant_of-self g c =
     let over : length c.undo_spots.new.above ≡ 512 = ap (λ (a : Area). length a.above) put ∙ above_long rs from ∙ s.over in
     let beside : length c.undo_spots.new.left ≡ 8 = ap (λ (a : Area). length a.left) put ∙ left_long rs from ∙ s.beside in
     let tried : 0 < open_trials s.journal = c.in_ok-mark.ensures.passed.tried in
-    record { ends = s.ends; over = over; beside = beside; quiet = λ closed. absurd (omega (arith, closed, tried)) }
+    record { ends = s.ends; few = s.few; over = over; beside = beside; quiet = λ closed. absurd (omega (arith, closed, tried)) }
 
 pub returns : goal.returns
 returns g c =

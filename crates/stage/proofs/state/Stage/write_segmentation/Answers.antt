@@ -12,6 +12,7 @@ use Rattle.stage.specs.Questions.{area, need, record_asked}
 use Rattle.stage.specs.View.{lanes, state_of, world}
 use Rattle.stage.proofs.Cells.{part_taken, part_dropped, still_quiet}
 use Rattle.stage.proofs.Calls.{asked_block}
+use Rattle.stage.proofs.Symbols.{still_few}
 use Rattle.stage.proofs.Segments.{carries, recounted, prediction_here, number_here, refused_block, refused_number, refused_record, accepted, map_segment}
 use Rattle.stage.proofs.state.Stage.write_segmentation.Goals as goal
 
@@ -74,6 +75,7 @@ invariant_of-self g c =
     let kept = c.set_block.ensures.kept in
     record {
       ends = s.ends;
+      few = still_few c.set_block.new.self s.journal kept s.few;
       over = s.over;
       beside = s.beside;
       quiet =

@@ -11,6 +11,7 @@ use Rattle.stage.specs.declared.state.cells.Change.TheVariants as change
 use Rattle.stage.specs.View.{lanes, state_of, world}
 use Rattle.stage.proofs.Cells.{part_taken, part_dropped, still_quiet}
 use Rattle.stage.proofs.Calls.{asked_block}
+use Rattle.stage.proofs.Symbols.{still_few}
 use Rattle.stage.proofs.Skips.{refused_block, refused_record, accepted, flag_set}
 use Rattle.stage.proofs.state.Stage.write_skip.Goals as goal
 
@@ -57,6 +58,7 @@ invariant_of-self g c =
     let kept = c.set_block.ensures.kept in
     record {
       ends = s.ends;
+      few = still_few c.set_block.new.self s.journal kept s.few;
       over = s.over;
       beside = s.beside;
       quiet =
